@@ -1,0 +1,108 @@
+-- Numbers and their bits: a field of any width says the number's low bits, and bits are the field of the number that they say.
+-- Assumes nothing.
+use mathlib.Core.Path.{_≡_, refl, sym, ap, ap₂, _∙_}
+use mathlib.Core.Bool.{Bool, true, false}
+use mathlib.Core.List.{List, [], _∷_, _++_, append-assoc}
+use Prim.Native.Nat.{ℕ, zero, suc, _+_, _*_, _-_, _/_, _%_, _^_, _≤_, _<_}
+use native.Mathlib.Nat.{mod-lt, pow-suc, le-of-suc-le-suc, not-suc-le-zero, mul-assoc, mul-comm, add-mul, mod-eq-of-lt, mul-le-mul-right, zero-div}
+use native.Mathlib.Omega.{arith}
+use lib.Dec.{eqb}
+use lib.Pow.{mod-pow-add, high}
+use lib.ListN.{length, getD, take, drop, replicate, length-append}
+use Rattle.rules.specs.Strings.{digit, field, valueFrom, value}
+
+pub field-length : (w a : ℕ) → length (field w a) ≡ w
+unfolding field
+field-length zero a = refl
+field-length (suc w) a = ap suc (field-length w a)
+
+-- a digit below 2 as a Bool and back
+pub digit-eqb : (x : ℕ) → x < 2 → digit (eqb x 1) ≡ x
+digit-eqb zero h = refl
+digit-eqb (suc zero) h = refl
+digit-eqb (suc (suc x)) h = absurd (omega arith)
+
+pub digit-lt : (x : Bool) → digit x < 2
+digit-lt true = omega arith
+digit-lt false = omega arith
+
+-- bit j of a field, counted from the highest
+pub field-at : (k a j : ℕ) → j < k → getD (field k a) j false ≡ eqb (a / 2 ^ (k - 1 - j) % 2) 1
+unfolding field
+field-at zero a j h = absurd (not-suc-le-zero h)
+field-at (suc k) a zero h = ap (λ (n : ℕ). eqb (a / 2 ^ n % 2) 1) (omega arith)
+field-at (suc k) a (suc j) h = field-at k a j (le-of-suc-le-suc h) ∙ ap (λ (n : ℕ). eqb (a / 2 ^ n % 2) 1) (omega arith)
+
+pub value-snoc : (a : ℕ) (s : List Bool) (x : Bool) → valueFrom a (s ++ (x ∷ [])) ≡ valueFrom a s * 2 + digit x
+unfolding valueFrom
+value-snoc a [] x = refl
+value-snoc a (y ∷ s) x = value-snoc (a * 2 + digit y) s x
+
+pub value-append : (a : ℕ) (s t : List Bool) → valueFrom a (s ++ t) ≡ valueFrom (valueFrom a s) t
+unfolding valueFrom
+value-append a [] t = refl
+value-append a (x ∷ s) t = value-append (a * 2 + digit x) s t
+
+value-from-lt : (a : ℕ) (s : List Bool) → valueFrom a s < (a + 1) * 2 ^ length s
+unfolding valueFrom
+value-from-lt a [] = omega arith
+value-from-lt a (x ∷ s) =
+    let h : (a * 2 + digit x + 1) * 2 ^ length s ≤ ((a + 1) * 2) * 2 ^ length s = mul-le-mul-right (2 ^ length s) (omega (arith, digit-lt x)) in
+    let e : (a + 1) * 2 ^ suc (length s) ≡ ((a + 1) * 2) * 2 ^ length s = ap (λ (n : ℕ). (a + 1) * n) (pow-suc 2 (length s) ∙ omega arith) ∙ sym (mul-assoc (a + 1) 2 (2 ^ length s)) in
+    omega (arith, value-from-lt (a * 2 + digit x) s)
+
+pub value-lt : (s : List Bool) → value s < 2 ^ length s
+value-lt s = omega (arith, value-from-lt 0 s)
+
+spread : (a t m p : ℕ) → (a * 2 + t) * p + m ≡ a * (p * 2) + (t * p + m)
+spread a t m p =
+    let e : (a * 2 + t) * p ≡ a * 2 * p + t * p = add-mul (a * 2) t p in
+    let f : a * 2 * p ≡ a * (p * 2) = mul-assoc a 2 p ∙ ap (λ (n : ℕ). a * n) (mul-comm 2 p) in
+    omega arith
+
+value-from-field : (a w v : ℕ) → valueFrom a (field w v) ≡ a * 2 ^ w + v % 2 ^ w
+unfolding valueFrom field
+value-from-field a zero v = omega arith
+value-from-field a (suc w) v =
+    value-from-field (a * 2 + digit (eqb (v / 2 ^ w % 2) 1)) w v
+    ∙ ap (λ (t : ℕ). (a * 2 + t) * 2 ^ w + v % 2 ^ w) (digit-eqb (v / 2 ^ w % 2) (omega arith))
+    ∙ spread a (v / 2 ^ w % 2) (v % 2 ^ w) (2 ^ w)
+    ∙ ap₂ (λ (m n : ℕ). a * m + n) (sym (pow-suc 2 w)) (sym (mod-pow-add v 1 w) ∙ ap (λ (n : ℕ). v % 2 ^ n) (let e : 1 + w ≡ suc w = omega arith in e))
+
+-- a field of any width says the number's low bits
+pub value-field : (w v : ℕ) → value (field w v) ≡ v % 2 ^ w
+value-field w v = value-from-field 0 w v ∙ omega arith
+
+pub value-field-exact : (w v : ℕ) → v < 2 ^ w → value (field w v) ≡ v
+value-field-exact w v h = value-field w v ∙ mod-eq-of-lt h
+
+-- bits behind a number are added to it, moved up
+pub value-shift : (a : ℕ) (s : List Bool) → valueFrom a s ≡ a * 2 ^ length s + value s
+unfolding valueFrom
+value-shift a [] = omega arith
+value-shift a (x ∷ s) =
+    value-shift (a * 2 + digit x) s
+    ∙ spread a (digit x) (value s) (2 ^ length s)
+    ∙ ap₂ (λ (m n : ℕ). a * m + n) (sym (pow-suc 2 (length s))) (sym (value-shift (digit x) s) ∙ ap (λ (n : ℕ). valueFrom n s) (let e : digit x ≡ 0 * 2 + digit x = omega arith in e))
+
+odd-digit : (a : ℕ) (x : Bool) → eqb ((a * 2 + digit x) % 2) 1 ≡ x
+odd-digit a true = ap (λ (n : ℕ). eqb n 1) (let e : (a * 2 + 1) % 2 ≡ 1 = omega arith in e)
+odd-digit a false = ap (λ (n : ℕ). eqb n 1) (let e : (a * 2 + 0) % 2 ≡ 0 = omega arith in e)
+
+field-from : (a : ℕ) (s : List Bool) → field (length s) (valueFrom a s) ≡ s
+unfolding field valueFrom
+field-from a [] = refl
+field-from a (x ∷ s) =
+    let top : valueFrom (a * 2 + digit x) s / 2 ^ length s ≡ a * 2 + digit x =
+      ap (λ (n : ℕ). n / 2 ^ length s) (value-shift (a * 2 + digit x) s) ∙ high (a * 2 + digit x) (length s) (value-lt s) in
+    ap₂ (λ (y : Bool) (l : List Bool). y ∷ l) (ap (λ (n : ℕ). eqb (n % 2) 1) top ∙ odd-digit a x) (field-from (a * 2 + digit x) s)
+
+-- and back: bits are the field of the number that they say
+pub field-value : (s : List Bool) → field (length s) (value s) ≡ s
+field-value s = field-from 0 s
+
+-- zeros say nothing
+pub value-zeros : (n : ℕ) → value (replicate n false) ≡ 0
+unfolding valueFrom
+value-zeros zero = refl
+value-zeros (suc n) = value-zeros n

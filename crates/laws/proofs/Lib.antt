@@ -1,0 +1,7 @@
+-- The laws of the rules, one file a notion, each above those that cite it.
+pub mod Tests
+pub mod Prefix
+pub mod Rising
+pub mod Bits
+pub mod Below
+pub mod Union

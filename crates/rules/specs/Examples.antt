@@ -1,0 +1,113 @@
+-- "Checked by hand": P1 to P10, by one theorem over one list. Beside each stands the slip that it shuts out.
+use mathlib.Core.Path.{_≡_, refl}
+use mathlib.Core.Bool.{Bool, true, false}
+use mathlib.Core.List.{List, [], _∷_}
+use Prim.Native.Nat.{ℕ}
+use Rattle.rules.specs.Limits.{Limits, narrow}
+use Rattle.rules.specs.Strings.{Str, prefix, same, less, field, valueFrom, aligned, wordOf, strOf}
+use Rattle.rules.specs.Names.{Name, any, all, keep, member, rising, isName, covered, below, insert, sorted, outgrown, union}
+use Rattle.rules.specs.Stamps.{Stamp, start, pairAmong, pair, lawful, update, append, fork, settle, settled, reduceBy, reduce, unite, join, compare}
+use Rattle.rules.specs.Stored.{wordsOf, stored, strsIn, held, sameNumbers, sameWords, sameRecord, isStored, unlawful, blank}
+use Rattle.rules.specs.Refusals.{first, long, many, touches, overlap, unknown, unseen}
+use Rattle.rules.specs.Values.{updated, forked, joined, compared}
+use Rattle.rules.specs.Packed.{stringBits, stringsBits, nameBits, stampBits, bytesOf, packBits, packed}
+use Rattle.rules.specs.declared.Verdict.{Verdict}
+use Rattle.rules.specs.declared.Verdict.the-variants.{Equal, Obsolete, Conflict}
+use Rattle.rules.specs.declared.Refusal.the-variants.{Unlawful, Overlap, Unseen}
+use Rattle.rules.specs.declared.Answer.{Answer}
+use Rattle.rules.specs.declared.Answer.the-variants.{Done, Refused}
+use Rattle.rules.specs.declared.Compared.{Compared}
+use Rattle.rules.specs.declared.Compared.the-variants.{Is, Refused as NotCompared}
+use Rattle.rules.specs.declared.Given.{Given}
+use Rattle.rules.specs.declared.Forked.{Forked}
+
+abbrev o : Bool
+o = false
+
+abbrev i : Bool
+i = true
+
+abbrev e : Str
+e = []
+
+-- [u|i], and as a record
+abbrev stamp : Name → Name → Stamp
+stamp u n = record { update = u; id = n }
+
+abbrev r : Name → Name → Rattle.rules.specs.declared.Record.Record
+r u n = stored narrow (stamp u n)
+
+-- the strings of the examples
+abbrev s0 : Str
+s0 = o ∷ []
+
+abbrev s1 : Str
+s1 = i ∷ []
+
+abbrev s00 : Str
+s00 = o ∷ o ∷ []
+
+abbrev s01 : Str
+s01 = o ∷ i ∷ []
+
+abbrev s10 : Str
+s10 = i ∷ o ∷ []
+
+abbrev s000 : Str
+s000 = o ∷ o ∷ o ∷ []
+
+abbrev s011 : Str
+s011 = o ∷ i ∷ i ∷ []
+
+-- what an example says: one of these is the other
+pub data Said : Type 0 where
+  truth : Bool → Said
+  name : Name → Said
+  bytes : List ℕ → Said
+  gives : Given → Said
+  branches : Forked → Said
+  compares : Compared → Said
+
+abbrev done : Name → Name → Given
+done u n = record { answer = Done; stamp = r u n }
+
+pub examples : List (Said × Said)
+examples =
+    -- P1
+    (truth (below (s00 ∷ s011 ∷ []) (s000 ∷ s011 ∷ s1 ∷ [])), truth true)
+    ∷ (truth (below (s00 ∷ s10 ∷ []) (s000 ∷ s011 ∷ s1 ∷ [])), truth false)
+    -- P2: not "keeping 0 beside 01 in a union"
+    ∷ (name (union (s00 ∷ s011 ∷ []) (s000 ∷ s01 ∷ s1 ∷ [])), name (s000 ∷ s011 ∷ s1 ∷ []))
+    -- P3
+    ∷ (bytes (packed narrow start), bytes (0x00 ∷ 0x00 ∷ 0x00 ∷ []))
+    ∷ (bytes (packed narrow (fork false start)), bytes (0x00 ∷ 0x00 ∷ 0x40 ∷ []))
+    ∷ (bytes (packed narrow (fork true start)), bytes (0x00 ∷ 0x00 ∷ 0x60 ∷ []))
+    ∷ (branches (forked narrow (stored narrow start)), branches (record { answer = Done; zero = r (e ∷ []) (s0 ∷ []); one = r (e ∷ []) (s1 ∷ []) }))
+    -- P4
+    ∷ (gives (updated narrow (r (e ∷ []) (s0 ∷ []))), gives (done (s0 ∷ []) (s0 ∷ [])))
+    ∷ (bytes (packed narrow (stamp (s0 ∷ []) (s0 ∷ []))), bytes (0x00 ∷ 0x80 ∷ 0x20 ∷ []))
+    -- P5
+    ∷ (bytes (packed narrow (stamp (e ∷ []) (s00 ∷ s1 ∷ []))), bytes (0x00 ∷ 0x08 ∷ 0x80 ∷ 0xC0 ∷ []))
+    -- P6: not "reducing once"; not "putting s into u only if u held both s0 and s1"
+    ∷ (gives (joined narrow (r (s1 ∷ []) (s00 ∷ s1 ∷ [])) (r (s01 ∷ []) (s01 ∷ []))), gives (done (e ∷ []) (e ∷ [])))
+    -- P7: not "reducing u by itself"
+    ∷ (gives (joined narrow (r (s0 ∷ []) (s00 ∷ [])) (r (s1 ∷ []) (s1 ∷ []))), gives (done (s0 ∷ s1 ∷ []) (s00 ∷ s1 ∷ [])))
+    -- P8: not "comparing ids in place of updates"
+    ∷ (compares (compared narrow (r (s0 ∷ []) (s01 ∷ [])) (r (s0 ∷ s1 ∷ []) (s00 ∷ s1 ∷ []))), compares (Is Obsolete))
+    -- P9
+    ∷ (compares (compared narrow (r (s0 ∷ []) (s0 ∷ [])) (r (s1 ∷ []) (s1 ∷ []))), compares (Is Conflict))
+    ∷ (compares (compared narrow (r (e ∷ []) (s0 ∷ [])) (r (e ∷ []) (s1 ∷ []))), compares (Is Equal))
+    -- P10
+    ∷ (compares (compared narrow (r (e ∷ []) (s0 ∷ [])) (r (e ∷ []) (s0 ∷ []))), compares (NotCompared Overlap))
+    ∷ (compares (compared narrow (r (s0 ∷ []) (s00 ∷ [])) (r (e ∷ []) (s01 ∷ []))), compares (NotCompared Unseen))
+    ∷ (compares (compared narrow (r (s01 ∷ []) (s0 ∷ [])) (r (s1 ∷ []) (s1 ∷ []))), compares (NotCompared Unlawful))
+    ∷ []
+
+abbrev pub Hold : List (Said × Said) → Type 0
+Hold [] = Unit {0}
+Hold (c ∷ cs) = (c .0 ≡ c .1) × Hold cs
+
+-- each holds by computing both sides
+pub examples-hold : Hold examples
+unfolding examples prefix same less field valueFrom aligned wordOf strOf any all keep member rising isName covered below insert sorted outgrown union pairAmong pair lawful update append fork settle settled reduceBy reduce unite join compare wordsOf stored strsIn held sameNumbers sameWords sameRecord isStored unlawful blank first long many touches overlap unknown unseen updated forked joined compared stringBits stringsBits nameBits stampBits bytesOf packBits packed
+examples-hold = (refl, (refl, (refl, (refl, (refl, (refl, (refl, (refl, (refl, (refl, (refl, (refl, (refl, (refl, (refl, (refl, (refl, (refl, tt))))))))))))))))))
