@@ -94,7 +94,7 @@ unfolding field valueFrom
 field-from a [] = refl
 field-from a (x ∷ s) =
     let top : valueFrom (a * 2 + digit x) s / 2 ^ length s ≡ a * 2 + digit x =
-      ap (λ (n : ℕ). n / 2 ^ length s) (value-shift (a * 2 + digit x) s) ∙ high (a * 2 + digit x) (length s) (value-lt s) in
+    ap (λ (n : ℕ). n / 2 ^ length s) (value-shift (a * 2 + digit x) s) ∙ high (a * 2 + digit x) (length s) (value-lt s) in
     ap₂ (λ (y : Bool) (l : List Bool). y ∷ l) (ap (λ (n : ℕ). eqb (n % 2) 1) top ∙ odd-digit a x) (field-from (a * 2 + digit x) s)
 
 -- and back: bits are the field of the number that they say

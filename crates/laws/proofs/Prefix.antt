@@ -3,6 +3,9 @@ use mathlib.Core.Path.{_≡_, refl, sym, ap, _∙_, subst}
 use mathlib.Core.Bool.{Bool, true, false, _&&_, Bool·beq}
 use mathlib.Core.List.{List, [], _∷_, _++_}
 use mathlib.Core.Logic.{_⊎_, inl, inr, ⊎-elim}
+use Prim.Native.Nat.{ℕ, zero, suc, _≤_, _<_, zero-le, suc-le-suc}
+use native.Mathlib.Omega.{arith}
+use lib.ListN.{length}
 use Rattle.rules.specs.Strings.{Str, prefix, same, _▹_}
 use Rattle.laws.proofs.Tests.{no, clash, not-true}
 
@@ -125,3 +128,25 @@ unfolding prefix
 grown-not-prefix [] d = refl
 grown-not-prefix (true ∷ s) d = grown-not-prefix s d
 grown-not-prefix (false ∷ s) d = grown-not-prefix s d
+
+-- ---- lengths
+
+pub prefix-length : (s t : Str) → prefix s t ≡ true → length s ≤ length t
+unfolding prefix
+prefix-length [] t p = omega arith
+prefix-length (a ∷ s) [] p = absurd (no p)
+prefix-length (true ∷ s) (true ∷ t) p = suc-le-suc (prefix-length s t p)
+prefix-length (false ∷ s) (false ∷ t) p = suc-le-suc (prefix-length s t p)
+prefix-length (true ∷ s) (false ∷ t) p = absurd (no p)
+prefix-length (false ∷ s) (true ∷ t) p = absurd (no p)
+
+-- a prefix of the same length is all of it
+pub prefix-whole : (s t : Str) → prefix s t ≡ true → length t ≤ length s → s ≡ t
+unfolding prefix
+prefix-whole [] [] p h = refl
+prefix-whole [] (b ∷ t) p h = absurd (omega arith)
+prefix-whole (a ∷ s) [] p h = absurd (no p)
+prefix-whole (true ∷ s) (true ∷ t) p h = ap (λ (l : Str). true ∷ l) (prefix-whole s t p (omega arith))
+prefix-whole (false ∷ s) (false ∷ t) p h = ap (λ (l : Str). false ∷ l) (prefix-whole s t p (omega arith))
+prefix-whole (true ∷ s) (false ∷ t) p h = absurd (no p)
+prefix-whole (false ∷ s) (true ∷ t) p h = absurd (no p)

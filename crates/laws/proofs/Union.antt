@@ -6,14 +6,14 @@ use mathlib.Core.List.{List, [], _∷_, _++_}
 use mathlib.Core.Logic.{_⊎_, inl, inr, ⊎-elim}
 use Prim.Native.Nat.{ℕ, zero, suc, _+_, _≤_, _<_}
 use native.Mathlib.Omega.{arith}
-use native.Mathlib.Nat.{le-of-suc-le-suc}
+use native.Mathlib.Nat.{lt-of-not-le}
 use lib.ListN.{length}
 use Rattle.rules.specs.Strings.{Str, prefix, same}
 use Rattle.rules.specs.Names.{Name, any, keep, rising, covered, below, sorted, outgrown, union, unions}
-use Rattle.laws.proofs.Tests.{no, clash, decide, not-true, not-false, iff, and-left, and-right, and-both, or-cases, or-left, or-right, not-is, is-not, In, in-left, in-right, in-append, Some, any-some, some-any, any-none, none-any, keep-in, in-keep}
-use Rattle.laws.proofs.Prefix.{prefix-refl, prefix-trans, prefix-antisym, same-is, is-same, apart-same}
-use Rattle.laws.proofs.Rising.{rising-antichain, rising-unique, Antichain, sorted-in, in-sorted, sorted-rising}
-use Rattle.laws.proofs.Below.{covered-some, some-covered, in-covered, covered-down, below-each, each-below, covered-below}
+use Rattle.laws.proofs.Tests.{clash, decide, not-true, not-false, iff, and-left, and-right, and-both, or-cases, or-left, or-right, not-is, is-not, In, in-left, in-right, in-append, Some, any-some, some-any, none-any, keep-in, in-keep}
+use Rattle.laws.proofs.Prefix.{prefix-refl, prefix-trans, prefix-whole, same-is, is-same}
+use Rattle.laws.proofs.Rising.{sorted-in, in-sorted, sorted-rising}
+use Rattle.laws.proofs.Below.{covered-some, some-covered, in-covered, below-each, each-below, below-trans}
 
 -- a string of l that no other string of l extends
 pub record Top (s : Str) (l : List Str) : Type 0 where
@@ -35,8 +35,8 @@ kept-top l s i =
     record {
       inside = h .0;
       alone = λ t j p.
-        same-is s t
-        (not-false (λ e. clash (some-any (λ x. prefix s x && not (same s x)) l t j (and-both p (is-not e))) (not-is (h .1))));
+          same-is s t
+          (not-false (λ e. clash (some-any (λ x. prefix s x && not (same s x)) l t j (and-both p (is-not e))) (not-is (h .1))));
     }
 
 -- the document's words: a string of either that is no proper prefix of another in either
@@ -54,12 +54,77 @@ union-rising m n =
     sorted-rising (keep (λ x. not (outgrown x (m ++ n))) (m ++ n))
     (λ s t i j p. kept-top (m ++ n) s i .alone t (kept-top (m ++ n) t j .inside) p)
 
--- ---- every string of a list has a longest one above it
+-- ---- every string of a list has one above it that stays
 
--- proper extensions are longer, so at most so many steps lead to one that has none
-climb : (l : List Str) (k : ℕ) (s : Str) → In s l → ((t : Str) → In t l → length t < length s + k) → Some (prefix s) (keep (λ x. not (outgrown x l)) l)
-climb l k s i h = ?
+-- longer than each string of the list
+room : List Str → ℕ
+room [] = 0
+room (s ∷ l) = suc (length s) + room l
 
--- whatever a string of either covers, the union covers
+in-room : (l : List Str) (s : Str) → In s l → length s < room l
+unfolding room
+in-room [] s i = absurd i
+in-room (t ∷ l) s i = ⊎-elim (λ e. omega (arith, ap length e)) (λ h. omega (arith, in-room l s h)) i
+
+-- a proper extension is longer, so k of them lead to a string that has none
+climb : (l : List Str) (k : ℕ) (s : Str) → In s l → room l ≤ length s + k → Some (prefix s) (keep (λ x. not (outgrown x l)) l)
+unfolding outgrown
+climb l zero s i h = absurd (omega (arith, in-room l s i))
+climb l (suc k) s i h = by (decide (outgrown s l)) (λ t j g. climb l k t j g)
+  where
+    by : (outgrown s l ≡ true) ⊎ (outgrown s l ≡ false) → ((t : Str) → In t l → room l ≤ length t + k → Some (prefix t) (keep (λ x. not (outgrown x l)) l))
+        → Some (prefix s) (keep (λ x. not (outgrown x l)) l)
+    by (inr e) up = record { one = s; inside = in-keep (λ x. not (outgrown x l)) l s i (is-not e); passes = prefix-refl s }
+    by (inl e) up =
+        let a = any-some (λ t. prefix s t && not (same s t)) l e in
+        let t : Str = a .one in
+        let p : prefix s t ≡ true = and-left (prefix s t) (not (same s t)) (a .passes) in
+        let longer : length s < length t =
+        lt-of-not-le (λ g. clash (is-same (prefix-whole s t p g)) (not-is (and-right (prefix s t) (not (same s t)) (a .passes)))) in
+        let u = up t (a .inside) (omega arith) in
+        record { one = u .one; inside = u .inside; passes = prefix-trans s t (u .one) p (u .passes) }
+
+-- what a string of either covers, the union covers
+over-union : (s : Str) (m n : Name) (t : Str) → In t (m ++ n) → prefix s t ≡ true → covered s (union m n) ≡ true
+unfolding union
+over-union s m n t i p =
+    let l = m ++ n in
+    let u = climb l (room l) t i (omega arith) in
+    some-covered s (union m n) (u .one) (in-sorted (keep (λ x. not (outgrown x l)) l) (u .one) (u .inside)) (prefix-trans s t (u .one) p (u .passes))
+
+-- ↓(m ∪ n) is ↓m and ↓n together
 pub covered-union : (s : Str) (m n : Name) → covered s (union m n) ≡ (covered s m || covered s n)
-covered-union s m n = ?
+covered-union s m n =
+    iff
+    (λ e. let a = covered-some s (union m n) e in
+    ⊎-elim (λ h. or-left (covered s n) (some-covered s m (a .one) h (a .passes))) (λ h. or-right (covered s m) (some-covered s n (a .one) h (a .passes)))
+    (in-append (a .one) m n (union-top m n (a .one) (a .inside) .inside)))
+    (λ e. ⊎-elim
+    (λ h. let a = covered-some s m h in over-union s m n (a .one) (in-left (a .one) m n (a .inside)) (a .passes))
+    (λ h. let a = covered-some s n h in over-union s m n (a .one) (in-right (a .one) m n (a .inside)) (a .passes))
+    (or-cases (covered s m) (covered s n) e))
+
+-- ---- the least upper bound
+
+pub below-union-left : (m n : Name) → below m (union m n) ≡ true
+below-union-left m n = each-below m (union m n) (λ s i. covered-union s m n ∙ or-left (covered s n) (in-covered s m i))
+
+pub below-union-right : (m n : Name) → below n (union m n) ≡ true
+below-union-right m n = each-below n (union m n) (λ s i. covered-union s m n ∙ or-right (covered s m) (in-covered s n i))
+
+pub union-least : (m n l : Name) → below m l ≡ true → below n l ≡ true → below (union m n) l ≡ true
+union-least m n l p q =
+    each-below (union m n) l
+    (λ s i. ⊎-elim (λ h. below-each m l p s h) (λ h. below-each n l q s h) (in-append s m n (union-top m n s i .inside)))
+
+-- unions of names that are below each other, in pairs
+pub union-mono : (a b m n : Name) → below a m ≡ true → below b n ≡ true → below (union a b) (union m n) ≡ true
+union-mono a b m n p q =
+    union-least a b (union m n) (below-trans a m (union m n) p (below-union-left m n)) (below-trans b n (union m n) q (below-union-right m n))
+
+-- ---- the union of any number of names
+
+pub covered-unions : (s : Str) (ms : List Name) → covered s (unions ms) ≡ any (covered s) ms
+unfolding unions any covered
+covered-unions s [] = refl
+covered-unions s (m ∷ ms) = covered-union s m (unions ms) ∙ ap (λ (b : Bool). covered s m || b) (covered-unions s ms)
