@@ -1,8 +1,9 @@
--- "Checked by hand": P1 to P10, by one theorem over one list. Beside each stands the slip that it shuts out.
+-- "Checked by hand": P1 to P10, and one case more, by one theorem over one list. Beside an example stands the slip that it shuts out.
 use mathlib.Core.Path.{_≡_, refl}
 use mathlib.Core.Bool.{Bool, true, false}
-use mathlib.Core.List.{List, [], _∷_}
-use Prim.Native.Nat.{ℕ}
+use mathlib.Core.List.{List, [], _∷_, _++_, map}
+use Prim.Native.Nat.{ℕ, zero, suc}
+use lib.ListN.{drop}
 use Rattle.rules.specs.Limits.{Limits, narrow}
 use Rattle.rules.specs.Strings.{Str, prefix, same, less, field, valueFrom, aligned, wordOf, strOf}
 use Rattle.rules.specs.Names.{Name, any, all, keep, member, rising, isName, covered, below, insert, sorted, outgrown, union}
@@ -59,6 +60,15 @@ s000 = o ∷ o ∷ o ∷ []
 abbrev s011 : Str
 s011 = o ∷ i ∷ i ∷ []
 
+-- all strings of k digits, in rising order
+every : ℕ → Name
+every zero = [] ∷ []
+every (suc k) = map (λ s. o ∷ s) (every k) ++ map (λ s. i ∷ s) (every k)
+
+-- sixteen strings, no two of which differ in the last digit only
+abbrev sixteen : Name
+sixteen = append false (every 4)
+
 -- what an example says: one of these is the other
 pub data Said : Type 0 where
   truth : Bool → Said
@@ -101,6 +111,8 @@ examples =
     ∷ (compares (compared narrow (r (e ∷ []) (s0 ∷ [])) (r (e ∷ []) (s0 ∷ []))), compares (NotCompared Overlap))
     ∷ (compares (compared narrow (r (s0 ∷ []) (s00 ∷ [])) (r (e ∷ []) (s01 ∷ []))), compares (NotCompared Unseen))
     ∷ (compares (compared narrow (r (s01 ∷ []) (s0 ∷ [])) (r (s1 ∷ []) (s1 ∷ []))), compares (NotCompared Unlawful))
+    -- not "refusing a join by the number of strings before reduction": 17 before, 16 after
+    ∷ (gives (joined narrow (r (e ∷ []) sixteen) (r (e ∷ []) ((o ∷ o ∷ o ∷ o ∷ i ∷ []) ∷ []))), gives (done (e ∷ []) ((o ∷ o ∷ o ∷ o ∷ []) ∷ drop 1 sixteen)))
     ∷ []
 
 abbrev pub Hold : List (Said × Said) → Type 0
@@ -109,5 +121,5 @@ Hold (c ∷ cs) = (c .0 ≡ c .1) × Hold cs
 
 -- each holds by computing both sides
 pub examples-hold : Hold examples
-unfolding examples prefix same less field valueFrom aligned wordOf strOf any all keep member rising isName covered below insert sorted outgrown union pairAmong pair lawful update append fork settle settled reduceBy reduce unite join compare wordsOf stored strsIn held sameNumbers sameWords sameRecord isStored unlawful blank first long many touches overlap unknown unseen updated forked joined compared stringBits stringsBits nameBits stampBits bytesOf packBits packed
-examples-hold = (refl, (refl, (refl, (refl, (refl, (refl, (refl, (refl, (refl, (refl, (refl, (refl, (refl, (refl, (refl, (refl, (refl, (refl, tt))))))))))))))))))
+unfolding examples every prefix same less field valueFrom aligned wordOf strOf any all keep member rising isName covered below insert sorted outgrown union pairAmong pair lawful update append fork settle settled reduceBy reduce unite join compare wordsOf stored strsIn held sameNumbers sameWords sameRecord isStored unlawful blank first long many touches overlap unknown unseen updated forked joined compared stringBits stringsBits nameBits stampBits bytesOf packBits packed
+examples-hold = (refl, (refl, (refl, (refl, (refl, (refl, (refl, (refl, (refl, (refl, (refl, (refl, (refl, (refl, (refl, (refl, (refl, (refl, (refl, tt)))))))))))))))))))
