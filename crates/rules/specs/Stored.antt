@@ -6,7 +6,7 @@ use lib.Dec.{eqb}
 use lib.ListN.{length, take, replicate}
 use Rattle.rules.specs.Limits.{Limits}
 use Rattle.rules.specs.Strings.{wordOf, strOf}
-use Rattle.rules.specs.Names.{Name}
+use Rattle.rules.specs.Names.{Name, isName}
 use Rattle.rules.specs.Stamps.{Stamp, lawful}
 use Rattle.rules.specs.declared.Words.{Words}
 use Rattle.rules.specs.declared.Record.{Record}
@@ -39,6 +39,10 @@ sameWords a b = eqb (a .count) (b .count) && sameNumbers (a .words) (b .words)
 
 unfoldable pub sameRecord : Record → Record → Bool
 sameRecord a b = sameWords (a .update) (b .update) && sameWords (a .id) (b .id)
+
+-- the name's record is the stored shape of a name
+unfoldable pub isStoredName : Limits → Words → Bool
+isStoredName L w = isName L (strsIn w) && sameWords w (wordsOf L (strsIn w))
 
 -- the record is the stored shape of a lawful stamp
 unfoldable pub isStored : Limits → Record → Bool
