@@ -9,7 +9,7 @@ use Rattle.rules.specs.Strings.{Str, prefix, same, less, field, valueFro
 use Rattle.rules.specs.Names.{Name, any, all, keep, member, rising, isName, covered, below, insert, sorted, outgrown, union}
 use Rattle.rules.specs.Stamps.{Stamp, start, pairAmong, pair, lawful, update, append, fork, settle, settled, reduceBy, reduce, unite, join, compare}
 use Rattle.rules.specs.Stored.{wordsOf, stored, strsIn, held, sameNumbers, sameWords, sameRecord, isStored, unlawful, blank}
-use Rattle.rules.specs.Refusals.{first, long, many, touches, overlap, unknown, unseen}
+use Rattle.rules.specs.Refusals.{first, long, many, touches, overlap, unknownTo, unseen}
 use Rattle.rules.specs.Values.{updated, forked, joined, compared}
 use Rattle.rules.specs.Packed.{stringBits, stringsBits, nameBits, stampBits, bytesOf, packBits, packed}
 use Rattle.rules.specs.declared.Verdict.{Verdict}
@@ -121,5 +121,5 @@ Hold (c ∷ cs) = (c .0 ≡ c .1) × Hold cs
 
 -- each holds by computing both sides
 pub examples-hold : Hold examples
-unfolding examples every prefix same less field valueFrom aligned wordOf strOf any all keep member rising isName covered below insert sorted outgrown union pairAmong pair lawful update append fork settle settled reduceBy reduce unite join compare wordsOf stored strsIn held sameNumbers sameWords sameRecord isStored unlawful blank first long many touches overlap unknown unseen updated forked joined compared stringBits stringsBits nameBits stampBits bytesOf packBits packed
+unfolding examples every prefix same less field valueFrom aligned wordOf strOf any all keep member rising isName covered below insert sorted outgrown union pairAmong pair lawful update append fork settle settled reduceBy reduce unite join compare wordsOf stored strsIn held sameNumbers sameWords sameRecord isStored unlawful blank first long many touches overlap unknownTo unseen updated forked joined compared stringBits stringsBits nameBits stampBits bytesOf packBits packed
 examples-hold = (refl, (refl, (refl, (refl, (refl, (refl, (refl, (refl, (refl, (refl, (refl, (refl, (refl, (refl, (refl, (refl, (refl, (refl, (refl, tt)))))))))))))))))))

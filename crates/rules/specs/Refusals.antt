@@ -63,10 +63,10 @@ touches m n = any (λ s. covered s n) m
 unfoldable pub overlap : Stamp → Stamp → Bool
 overlap a b = touches (a .id) (b .id) || touches (b .id) (a .id)
 
--- a string r of a's update is below b's id and not below b's update
-unfoldable pub unknown : Stamp → Stamp → Bool
-unknown a b = any (λ r. covered r (b .id) && not (covered r (b .update))) (a .update)
+-- some string r of u is below the id i and not below the update v
+unfoldable pub unknownTo : Name → Name → Name → Bool
+unknownTo u i v = any (λ r. covered r i && not (covered r v)) u
 
 -- 9: "a string r of one update is below the other's id and not below the other's update"
 unfoldable pub unseen : Stamp → Stamp → Bool
-unseen a b = unknown a b || unknown b a
+unseen a b = unknownTo (a .update) (b .id) (b .update) || unknownTo (b .update) (a .id) (a .update)
