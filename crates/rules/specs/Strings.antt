@@ -37,6 +37,10 @@ common [] t = zero
 common (a ∷ s) [] = zero
 common (a ∷ s) (b ∷ t) = cond (Bool·beq a b) (suc (common s t)) zero
 
+-- two strings that differ in the last digit only: they share all digits but that
+unfoldable pub siblings : Str → Str → Bool
+siblings s t = eqb (length s) (length t) && eqb (suc (common s t)) (length s)
+
 infixl 66 _▹_
 -- a string with one digit more
 abbrev pub _▹_ : Str → Bool → Str
