@@ -5,3 +5,4 @@ pub mod Rising
 pub mod Bits
 pub mod Below
 pub mod Union
+pub mod Words
