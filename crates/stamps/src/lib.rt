@@ -9,8 +9,18 @@ ghost use Rattle.rules.specs.Stamps.{append, compare, isNone, pair};
 ghost use Rattle.rules.specs.Stored.{blank, held, isStored, isStoredName, strsIn, wordsOf};
 ghost use Rattle.rules.specs.Refusals.{first, long};
 ghost use Rattle.rules.specs.Values.{updated, forked, compared, meeting};
-use names::{is_below, is_name, is_touching, is_unknown};
-use rules::{Answer, Compared, Forked, Given, Record, Refusal, Verdict, Words};
+use names::is_below;
+use names::is_name;
+use names::is_touching;
+use names::is_unknown;
+use rules::Answer;
+use rules::Compared;
+use rules::Forked;
+use rules::Given;
+use rules::Record;
+use rules::Refusal;
+use rules::Verdict;
+use rules::Words;
 use strings::are_siblings;
 
 // Whether the record is the stored shape of a lawful stamp.
@@ -36,10 +46,16 @@ pub fn update(r: Record) -> Given
     if is_lawful(r) {
         let i = r.id;
         let s = Record { update: i, id: i };
-        return Given { answer: Answer::Done, stamp: s };
+        return Given {
+            answer: Answer::Done,
+            stamp: s,
+        };
     }
     let z = nothing();
-    Given { answer: Answer::Refused(Refusal::Unlawful), stamp: z }
+    Given {
+        answer: Answer::Refused(Refusal::Unlawful),
+        stamp: z,
+    }
 }
 
 // [u|i] becomes [u|i0] and [u|i1]; all zeros where the record is unlawful or an id string can grow no longer.
@@ -58,7 +74,11 @@ pub fn fork(r: Record) -> Forked
     let i1 = grown(i, 1);
     let zero = Record { update: u, id: i0 };
     let one = Record { update: u, id: i1 };
-    Forked { answer: Answer::Done, zero: zero, one: one }
+    Forked {
+        answer: Answer::Done,
+        zero: zero,
+        one: one,
+    }
 }
 
 // What two stamps that meet are refused for: 2 for the first, 2 for the second, 8, 9.
