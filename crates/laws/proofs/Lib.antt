@@ -7,3 +7,4 @@ pub mod Below
 pub mod Union
 pub mod Settle
 pub mod Counts
+pub mod Fork
