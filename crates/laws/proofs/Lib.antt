@@ -8,3 +8,5 @@ pub mod Union
 pub mod Settle
 pub mod Counts
 pub mod Fork
+pub mod Proper
+pub mod Lawful
