@@ -1,4 +1,4 @@
--- Lawful stamps stay lawful: the seed is one, and update, fork and join make them of lawful ones, where the limits do not refuse.
+-- Lawful stamps stay lawful: the first one is, and update, fork and join make them of lawful ones, where the limits do not refuse.
 -- Since u is below i, the limits are asked of i alone: u has no more strings than i, and none longer. Assumes nothing.
 use mathlib.Core.Path.{_≡_, refl, sym, ap, subst}
 use mathlib.Core.Bool.{Bool, true, false, _&&_}
@@ -120,8 +120,8 @@ short-below most m n b f s i =
     le-trans (prefix-length s (c .one) (c .passes)) (f (c .one) (c .inside))
 
 -- lawful by what is asked of i, and a string in u
-pub lawful-made : (L : Limits) (x : Stamp) → Proper x → 1 ≤ length (x .update) → length (x .id) ≤ L .strings → Short (L .digits) (x .id) → pair (x .id) ≡ none
-    → lawful L x ≡ true
+pub lawful-made : (L : Limits) (x : Stamp) → Proper x → 1 ≤ length (x .update) → length (x .id) ≤ L .strings → Short (L .digits) (x .id)
+    → pair (x .id) ≡ none → lawful L x ≡ true
 lawful-made L x p h k f e =
     let b = p .belowId in
     parts-lawful L x
@@ -184,20 +184,21 @@ settle-short : (most : ℕ) (s : Str) (n : Name) → In (s ▹ false) n → Shor
 settle-short most s n h f x i =
     ⊎-elim (λ k. f x (k .0)) (λ k. omega (arith, f (s ▹ false) h, grown-length s false, ap length (k .0))) (settle-in s n x i)
 
+-- a string in u, and none too long in i
+abbrev Sized : ℕ → Stamp → Type 0
+Sized most x = (1 ≤ length (x .update)) × Short most (x .id)
+
+unite-sized : (most : ℕ) (a b : Stamp) → Sized most a → Sized most b → Sized most (unite a b)
+unfolding unite
+unite-sized most a b p q =
+    let u = union (a .update) (b .update) in
+    (filled-below (a .update) u (below-union-left (a .update) (b .update)) (p .0), union-short most (a .id) (b .id) (p .1) (q .1))
+
 module _
     (reduce-keeps : (P : Stamp → Type 0) → ((s : Str) (x : Stamp) → Proper x → In (s ▹ false) (x .id) → In (s ▹ true) (x .id) → P x → P (settled s x)) → (x : Stamp) → Proper x → P x → P (reduce x))
     (reduce-proper : (x : Stamp) → Proper x → Proper (reduce x))
     (reduce-normal : (x : Stamp) → Proper x → pair (reduce x .id) ≡ none)
     (settle-nonempty : (s : Str) (n : Name) → 1 ≤ length n → 1 ≤ length (settle s n)) where
-  -- a string in u, and none too long in i
-  abbrev Sized : ℕ → Stamp → Type 0
-  Sized most x = (1 ≤ length (x .update)) × Short most (x .id)
-
-  unite-sized : (most : ℕ) (a b : Stamp) → Sized most a → Sized most b → Sized most (unite a b)
-  unfolding unite
-  unite-sized most a b p q =
-      (filled-below (a .update) (union (a .update) (b .update)) (below-union-left (a .update) (b .update)) (p .0), union-short most (a .id) (b .id) (p .1) (q .1))
-
   reduce-sized : (most : ℕ) (x : Stamp) → Proper x → Sized most x → Sized most (reduce x)
   unfolding settled
   reduce-sized most =
