@@ -6,3 +6,5 @@ pub mod Bits
 pub mod Below
 pub mod Union
 pub mod Settle
+pub mod Sums
+pub mod Steps
