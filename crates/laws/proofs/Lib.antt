@@ -8,3 +8,5 @@ pub mod Union
 pub mod Settle
 pub mod Sums
 pub mod Steps
+pub mod Reduce
+pub mod Shares

@@ -2,9 +2,9 @@
 -- and two different steps commute. What was covered stays covered, except s0 and s1. Assumes nothing.
 use mathlib.Core.Path.{_≡_, refl, sym, ap, _∙_, subst}
 use mathlib.Core.Bool.{Bool, true, false}
-use mathlib.Core.List.{List, [], _∷_, _++_, dropLast}
+use mathlib.Core.List.{[], _∷_, dropLast}
 use mathlib.Core.Logic.{_⊎_, inl, inr, ⊎-elim, _↔_}
-use Prim.Native.Nat.{ℕ, zero, suc, _+_, _≤_}
+use Prim.Native.Nat.{ℕ, suc, _+_, _≤_}
 use native.Mathlib.Omega.{arith}
 use lib.ListN.{length}
 use Rattle.rules.specs.Strings.{Str, prefix, same, less, _▹_}
@@ -12,9 +12,9 @@ use Rattle.rules.specs.Names.{Name, all, rising, covered, below, insert}
 use Rattle.rules.specs.Stamps.{Stamp, settle, settled}
 use Rattle.laws.proofs.Tests.{clash, decide, not-true, In, Some}
 use Rattle.laws.proofs.Prefix.{prefix-refl, prefix-trans, prefix-antisym, prefix-grown, prefix-of-grown, prefix-goes-on, grown-not-prefix, same-is, not-same}
-use Rattle.laws.proofs.Rising.{rising-cons, rising-antichain, rising-unique, in-insert, insert-rising}
+use Rattle.laws.proofs.Rising.{rising-antichain, rising-unique, in-insert, insert-rising}
 use Rattle.laws.proofs.Below.{covered-some, some-covered, covered-below, below-each, below-by-covered, below-refl}
-use Rattle.laws.proofs.Settle.{Held, Other, Left, Way, holds, lacks, way, settle-in, in-settle, drop-grown}
+use Rattle.laws.proofs.Settle.{Held, Other, Way, holds, lacks, way, settle-in, in-settle, drop-grown}
 use Rattle.laws.proofs.Sums.{keep-rising, total, length-total, total-exchange, beyond, beyond-is}
 
 -- both names rising, and u below i: what reduction needs and keeps
@@ -75,9 +75,11 @@ covered-settle s n r e o = by (other-cases s (a .one))
   where
     a : Some (prefix r) n
     a = covered-some r n e
+
     -- a string of n that prolongs s gives way to s
     shrunk : (d : Bool) → Held s n → prefix r (s ▹ d) ≡ true → covered r (settle s n) ≡ true
     shrunk d h p = ⊎-elim (some-covered r (settle s n) s (in-settle s n s (inr (refl, h)))) (λ q. absurd (other-at s r d o q)) (prefix-of-grown r s d p)
+
     by : ((a .one ≡ s ▹ false) ⊎ (a .one ≡ s ▹ true)) ⊎ Other s (a .one) → covered r (settle s n) ≡ true
     by (inl (inl p)) = shrunk false (inl (rw p at (a .inside))) (rw p at (a .passes))
     by (inl (inr p)) = shrunk true (inr (rw p at (a .inside))) (rw p at (a .passes))
@@ -89,6 +91,7 @@ settle-nonempty s n h = by (way s n)
     filled : (l : Name) → In s l → 1 ≤ length l
     filled [] i = absurd i
     filled (x ∷ l) i = omega arith
+
     by : Way s n → 1 ≤ length (settle s n)
     by (holds k e) = filled (settle s n) (in-settle s n s (inr (refl, k)))
     by (lacks k e) = rw e h
@@ -112,6 +115,7 @@ module _ (s : Str) (n i : Name) (n-rising : rising n ≡ true) (i-rising : risin
       under p =
           let on : (d : Bool) → In (s ▹ d) n → t ≡ s ▹ d = λ d j. rising-antichain n n-rising t (s ▹ d) k j (prefix-trans t s (s ▹ d) p (prefix-grown s d)) in
           ⊎-elim (λ j. o .0 (on false j)) (λ j. o .1 (on true j)) h
+
       over : prefix s t ≡ true → ⊥
       over p =
           ⊎-elim (λ e. under (subst (λ (x : Str). prefix x s ≡ true) e (prefix-refl s)))
@@ -127,6 +131,7 @@ module _ (s : Str) (n i : Name) (n-rising : rising n ≡ true) (i-rising : risin
           (insert-rising s m
           (λ t k. ⊎-elim (λ l. inr (apart h t (l .0) (l .1))) (λ l. inl (sym (l .0))) (settle-in s n t (rw e (in-insert s m t (inr k)))))
           r)
+
       by : Way s n → rising (settle s n) ≡ true
       by (holds h e) = put _ h e (keep-rising _ n n-rising)
       by (lacks h e) = rw e n-rising
@@ -150,15 +155,17 @@ module _ (s : Str) (x : Stamp) (ok : Proper x) (zero-in : In (s ▹ false) (x .i
 
   -- the id covers what it did, except s0 and s1
   pub covered-settle-id : (r : Str) → (covered r (settle s (x .id)) ≡ true) ↔ ((covered r (x .id) ≡ true) × Other s r)
-  covered-settle-id r =
-      (λ e. (settle-covered s (x .id) r e, settle-other s (x .id) (x .id) (ok .idRising) (ok .idRising) (below-refl (x .id)) zero-in one-in r e),
-      λ h. covered-settle s (x .id) r (h .0) (h .1))
+  covered-settle-id r = (
+    λ e. (settle-covered s (x .id) r e, settle-other s (x .id) (x .id) (ok .idRising) (ok .idRising) (below-refl (x .id)) zero-in one-in r e),
+    λ h. covered-settle s (x .id) r (h .0) (h .1),
+  )
 
   -- and so does the update
   pub covered-settle-update : (r : Str) → (covered r (settle s (x .update)) ≡ true) ↔ ((covered r (x .update) ≡ true) × Other s r)
-  covered-settle-update r =
-      (λ e. (settle-covered s (x .update) r e, settle-other s (x .update) (x .id) (ok .updateRising) (ok .idRising) (ok .belowId) zero-in one-in r e),
-      λ h. covered-settle s (x .update) r (h .0) (h .1))
+  covered-settle-update r = (
+    λ e. (settle-covered s (x .update) r e, settle-other s (x .update) (x .id) (ok .updateRising) (ok .idRising) (ok .belowId) zero-in one-in r e),
+    λ h. covered-settle s (x .update) r (h .0) (h .1),
+  )
 
   pub settled-proper : Proper (settled s x)
   unfolding settled
@@ -226,10 +233,16 @@ swap-in s t n h o q r i = ⊎-elim stayed new (settle-in s (settle t n) r i)
         (⊎-elim (λ k. inl (in-settle s n r (inl (k .0, l .1)), k .1))
         (λ k. inr (k .0, ⊎-elim (λ j. inl (grown-stays t s n false (λ e. h (sym e)) j)) (λ j. inr (grown-stays t s n true (λ e. h (sym e)) j)) (k .1)))
         (settle-in t n r (l .0)))
+
     new : (r ≡ s) × Held s (settle t n) → In r (settle t (settle s n))
     new l =
         let k : Held s n = ⊎-elim (λ j. inl (grown-came s t n false o j)) (λ j. inr (grown-came s t n true o j)) (l .1) in
         in-settle t (settle s n) r (inl (in-settle s n r (inr (l .0, k)), rw (l .0) q))
+
+-- the step s is there still after another step t
+pub step-stays : (s t : Str) (x : Stamp) (d : Bool) → (s ≡ t → ⊥) → In (s ▹ d) (x .id) → In (s ▹ d) (settled t x .id)
+unfolding settled
+step-stays s t x d h i = grown-stays s t (x .id) d h i
 
 module _ (s t : Str) (x : Stamp) (ok : Proper x) (s-zero : In (s ▹ false) (x .id)) (s-one : In (s ▹ true) (x .id))
     (t-zero : In (t ▹ false) (x .id)) (t-one : In (t ▹ true) (x .id)) (h : s ≡ t → ⊥) where
@@ -237,13 +250,8 @@ module _ (s t : Str) (x : Stamp) (ok : Proper x) (s-zero : In (s ▹ false) (x .
   pairs-other : Other s t
   pairs-other = (λ e. s-outside t x ok t-zero t-one (rw e s-zero), λ e. s-outside t x ok t-zero t-one (rw e s-one))
 
-  -- the step s is there still after the step t
-  pub step-stays : (d : Bool) → In (s ▹ d) (x .id) → In (s ▹ d) (settled t x .id)
-  unfolding settled
-  step-stays d i = grown-stays s t (x .id) d h i
-
   both-proper : Proper (settled s (settled t x))
-  both-proper = settled-proper s (settled t x) (settled-proper t x ok t-zero t-one) (step-stays false s-zero) (step-stays true s-one)
+  both-proper = settled-proper s (settled t x) (settled-proper t x ok t-zero t-one) (step-stays s t x false h s-zero) (step-stays s t x true h s-one)
 
 -- two different steps commute
 pub steps-commute : (s t : Str) (x : Stamp) → Proper x → In (s ▹ false) (x .id) → In (s ▹ true) (x .id) → In (t ▹ false) (x .id) → In (t ▹ true) (x .id) → (s ≡ t → ⊥)
@@ -253,8 +261,10 @@ steps-commute s t x ok a b c d h = λ i. record { update = one (x .update) p.upd
   where
     p : Proper (settled s (settled t x))
     p = both-proper s t x ok a b c d h
+
     q : Proper (settled t (settled s x))
     q = both-proper t s x ok c d a b (λ e. h (sym e))
+
     one : (n : Name) → rising (settle s (settle t n)) ≡ true → rising (settle t (settle s n)) ≡ true → settle s (settle t n) ≡ settle t (settle s n)
     one n v w =
         let st = pairs-other s t x ok a b c d h in
