@@ -7,3 +7,10 @@ pub mod Below
 pub mod Union
 pub mod Settle
 pub mod Words
+pub mod Sums
+pub mod Steps
+pub mod Reduce
+pub mod Shares
+pub mod Counts
+pub mod Fork
+pub mod Lawful
