@@ -8,3 +8,10 @@ pub mod Union
 pub mod Settle
 pub mod Pairs
 pub mod Words
+pub mod Sums
+pub mod Steps
+pub mod Reduce
+pub mod Shares
+pub mod Counts
+pub mod Fork
+pub mod Lawful

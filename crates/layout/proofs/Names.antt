@@ -1,0 +1,212 @@
+-- Names and stamps go through the packed bits and back: the count says how many strings follow, and each says how long it is.
+-- What is read rises as a name does. Assumes nothing.
+use mathlib.Core.Path.{_≡_, refl, sym, ap, ap₂, _∙_, subst, subst₂}
+use mathlib.Core.Bool.{Bool, true, cond, _&&_}
+use mathlib.Core.List.{List, [], _∷_, _++_, append-assoc}
+use mathlib.Core.Logic.{inl, ⊎-elim}
+use mathlib.Core.Option.{none, some}
+use Prim.Native.Nat.{ℕ, zero, suc, _+_, _-_, _^_, _≤_, _<_}
+use native.Mathlib.Omega.{arith}
+use borrow.Author.Tests.{leb-true, le-leb}
+use lib.Dec.{leb, lit<, lit≤}
+use lib.ListN.{length}
+use Rattle.rules.specs.Limits.{Limits, narrow}
+use Rattle.rules.specs.Strings.{Str, field, less}
+use Rattle.rules.specs.Names.{Name, all, rising, isName, below}
+use Rattle.rules.specs.Stamps.{Stamp, lawful, isNone, pair}
+use Rattle.rules.specs.Packed.{stringBits, stringsBits, nameBits, stampBits, thenTake, takeString, takeMore, takeName, takeStamp}
+use Rattle.laws.proofs.Tests.{and-left, and-right, and-both}
+use Rattle.laws.proofs.Rising.{less-trans, rising-head, rising-tail, rising-cons}
+use Rattle.layout.proofs.Fields.{let-through, same-value, steps, go-on, number-back, took-number, string-back, took-string}
+
+-- the fields are wide enough for what the limits allow
+pub record Fitting (L : Limits) : Type 0 where
+  pub lengths : L .digits < 2 ^ L .lengthBits
+  pub counts : L .strings ≤ 2 ^ L .countBits
+
+pub narrow-fits : Fitting narrow
+narrow-fits = record { lengths = lit< tt; counts = lit≤ tt }
+
+-- no string is longer than allowed
+abbrev pub allShort : Limits → Name → Bool
+allShort L n = all (λ s. leb (length s) (L .digits)) n
+
+-- what makes a list of strings a name
+pub record Named (L : Limits) (n : Name) : Type 0 where
+  pub nonempty : 1 ≤ length n
+  pub few : length n ≤ L .strings
+  pub short : allShort L n ≡ true
+  pub rises : rising n ≡ true
+
+pub named : (L : Limits) (n : Name) → isName L n ≡ true → Named L n
+unfolding isName
+named L n h =
+    let a = leb 1 (length n) in
+    let b = leb (length n) (L .strings) in
+    let c = allShort L n in
+    let abc : (a && b && c) ≡ true = and-left (a && b && c) (rising n) h in
+    let ab : (a && b) ≡ true = and-left (a && b) c abc in
+    record {
+      nonempty = leb-true 1 (length n) (and-left a b ab);
+      few = leb-true (length n) (L .strings) (and-right a b ab);
+      short = and-right (a && b) c abc;
+      rises = and-right (a && b && c) (rising n) h;
+    }
+
+pub is-name : (L : Limits) (n : Name) → Named L n → isName L n ≡ true
+unfolding isName
+is-name L n i = and-both (and-both (and-both (le-leb 1 (length n) (i .nonempty)) (le-leb (length n) (L .strings) (i .few))) (i .short)) (i .rises)
+
+-- both parts of a lawful stamp are names
+pub lawful-names : (L : Limits) (s : Stamp) → lawful L s ≡ true → (isName L (s .update) ≡ true) × (isName L (s .id) ≡ true)
+unfolding lawful
+lawful-names L s h =
+    let u = isName L (s .update) in
+    let i = isName L (s .id) in
+    let b = below (s .update) (s .id) in
+    let both : (u && i) ≡ true = and-left (u && i) b (and-left (u && i && b) (isNone (pair (s .id))) h) in
+    (and-left u i both, and-right u i both)
+
+module _ (L : Limits) where
+  -- ---- short strings
+
+  pub short-head : (s : Str) (n : Name) → allShort L (s ∷ n) ≡ true → length s ≤ L .digits
+  unfolding all
+  short-head s n h = leb-true (length s) (L .digits) (and-left (leb (length s) (L .digits)) (allShort L n) h)
+
+  pub short-tail : (s : Str) (n : Name) → allShort L (s ∷ n) ≡ true → allShort L n ≡ true
+  unfolding all
+  short-tail s n h = and-right (leb (length s) (L .digits)) (allShort L n) h
+
+  short-cons : (s : Str) (n : Name) → length s ≤ L .digits → allShort L n ≡ true → allShort L (s ∷ n) ≡ true
+  unfolding all
+  short-cons s n p h = and-both (le-leb (length s) (L .digits) p) h
+
+  -- a string before the first of rising ones is before them all
+  rising-before : (s t : Str) (n : Name) → less s t ≡ true → rising (t ∷ n) ≡ true → rising (s ∷ t ∷ n) ≡ true
+  rising-before s t n p h =
+      rising-cons s (t ∷ n) (λ u i. ⊎-elim (λ e. subst (λ (x : Str). less s x ≡ true) (sym e) p) (λ j. less-trans s t u p (rising-head t n h u j)) i) h
+
+  -- ---- the strings after the first
+
+  more-back : L .digits < 2 ^ L .lengthBits → (s : Str) (n : Name) (rest : List Bool) → allShort L n ≡ true → rising (s ∷ n) ≡ true
+      → takeMore L (length n) s (stringsBits L n ++ rest) ≡ some (n, rest)
+  unfolding takeMore stringsBits
+  more-back fits s [] rest short h = refl
+  more-back fits s (t ∷ n) rest short h =
+      ap (takeMore L (suc (length n)) s) (append-assoc (stringBits L t) (stringsBits L n) rest)
+      ∙ go-on (λ u r. cond (less s u) (thenTake (takeMore L (length n) u r) (λ m end. some (u ∷ m, end))) none)
+      (string-back L t (stringsBits L n ++ rest) (short-head t n short) fits)
+      ∙ rw (rising-head s (t ∷ n) h t (inl refl)) (go-on (λ m end. some (t ∷ m, end)) (more-back fits t n rest (short-tail t n short) (rising-tail s (t ∷ n) h)))
+
+  -- so many strings, each allowed, each after the one before it, were written there
+  pub record More (k : ℕ) (s : Str) (bs : List Bool) (n : Name) (rest : List Bool) : Type 0 where
+    pub count : length n ≡ k
+    pub short : allShort L n ≡ true
+    pub rises : rising (s ∷ n) ≡ true
+    pub bits : bs ≡ stringsBits L n ++ rest
+
+  took-more : (k : ℕ) (s : Str) (bs : List Bool) (n : Name) (rest : List Bool) → takeMore L k s bs ≡ some (n, rest) → More k s bs n rest
+  unfolding takeMore stringsBits all rising
+  took-more zero s bs n rest e =
+      let p = same-value [] n bs rest e in
+      subst₂ (λ (m : Name) (r : List Bool). More zero s bs m r) (p .0) (p .1)
+      (record { count = refl; short = refl; rises = rising-cons s [] (λ t i. absurd i) refl; bits = refl })
+  took-more (suc k) s bs n rest e = steps _ _ (n, rest) e (λ t r first next.
+      let c = let-through (less s t) (thenTake (takeMore L k t r) (λ m end. some (t ∷ m, end))) (n, rest) next in
+      steps _ _ (n, rest) (c .1) (λ m end more last.
+      let p = same-value (t ∷ m) n end rest last in
+      let f = took-string L bs t r first in
+      let h = took-more k t r m end more in
+      subst₂ (λ (x : Name) (y : List Bool). More (suc k) s bs x y) (p .0) (p .1)
+      (record {
+        count = ap suc (h .count);
+        short = short-cons t m (f .0) (h .short);
+        rises = rising-before s t m (c .0) (h .rises);
+        bits = f .1 ∙ ap (λ (q : List Bool). stringBits L t ++ q) (h .bits) ∙ sym (append-assoc (stringBits L t) (stringsBits L m) end);
+      })))
+
+  -- ---- a name
+
+  -- the bits of a name and of what follows, field by field
+  name-bits : (s : Str) (n : Name) (rest : List Bool)
+      → nameBits L (s ∷ n) ++ rest ≡ field (L .countBits) (length n) ++ (stringBits L s ++ (stringsBits L n ++ rest))
+  unfolding nameBits stringsBits
+  name-bits s n rest =
+      ap (λ (k : ℕ). field (L .countBits) k ++ (stringBits L s ++ stringsBits L n) ++ rest) (let e : suc (length n) - 1 ≡ length n = omega arith in e)
+      ∙ append-assoc (field (L .countBits) (length n)) (stringBits L s ++ stringsBits L n) rest
+      ∙ ap (λ (r : List Bool). field (L .countBits) (length n) ++ r) (append-assoc (stringBits L s) (stringsBits L n) rest)
+
+  pub name-back : Fitting L → (n : Name) (rest : List Bool) → isName L n ≡ true → takeName L (nameBits L n ++ rest) ≡ some (n, rest)
+  unfolding takeName
+  name-back fit [] rest h = absurd (omega (arith, named L [] h .nonempty))
+  name-back fit (s ∷ n) rest h =
+      let i = named L (s ∷ n) h in
+      ap (takeName L) (name-bits s n rest)
+      ∙ go-on (λ k r. thenTake (takeString L r) (λ t more. thenTake (takeMore L k t more) (λ m end. some (t ∷ m, end))))
+      (number-back (L .countBits) (length n) (stringBits L s ++ (stringsBits L n ++ rest)) (omega (arith, i .few, fit .counts)))
+      ∙ go-on (λ t more. thenTake (takeMore L (length n) t more) (λ m end. some (t ∷ m, end)))
+      (string-back L s (stringsBits L n ++ rest) (short-head s n (i .short)) (fit .lengths))
+      ∙ go-on (λ m end. some (s ∷ m, end)) (more-back (fit .lengths) s n rest (short-tail s n (i .short)) (i .rises))
+
+  -- a name was found: written there, of as many strings as its count can say
+  pub record Found (bs : List Bool) (n : Name) (rest : List Bool) : Type 0 where
+    pub nonempty : 1 ≤ length n
+    pub few : length n ≤ 2 ^ L .countBits
+    pub short : allShort L n ≡ true
+    pub rises : rising n ≡ true
+    pub bits : bs ≡ nameBits L n ++ rest
+
+  pub took-name : (bs : List Bool) (n : Name) (rest : List Bool) → takeName L bs ≡ some (n, rest) → Found bs n rest
+  unfolding takeName
+  took-name bs n rest e =
+      steps _ _ (n, rest) e (λ k r first next.
+      steps _ _ (n, rest) next (λ s q second more.
+      steps _ _ (n, rest) more (λ m end third last.
+      let p = same-value (s ∷ m) n end rest last in
+      let c = took-number (L .countBits) bs k r first in
+      let f = took-string L r s q second in
+      let h = took-more k s q m end third in
+      subst₂ (λ (x : Name) (y : List Bool). Found bs x y) (p .0) (p .1)
+      (record {
+        nonempty = omega arith;
+        few = omega (arith, c .0, h .count);
+        short = short-cons s m (f .0) (h .short);
+        rises = h .rises;
+        bits =
+            c .1 ∙ ap₂ (λ (j : ℕ) (z : List Bool). field (L .countBits) j ++ z) (sym (h .count)) (f .1 ∙ ap (λ (z : List Bool). stringBits L s ++ z) (h .bits))
+            ∙ sym (name-bits s m end);
+      }))))
+
+  -- ---- a stamp
+
+  pub stamp-back : Fitting L → (s : Stamp) (rest : List Bool) → isName L (s .update) ≡ true → isName L (s .id) ≡ true
+      → takeStamp L (stampBits L s ++ rest) ≡ some (s, rest)
+  unfolding takeStamp stampBits
+  stamp-back fit s rest u i =
+      ap (takeStamp L) (append-assoc (nameBits L (s .update)) (nameBits L (s .id)) rest)
+      ∙ go-on (λ m r. thenTake (takeName L r) (λ n end. some (record { update = m; id = n }, end))) (name-back fit (s .update) (nameBits L (s .id) ++ rest) u)
+      ∙ go-on (λ n end. some (record { update = s .update; id = n }, end)) (name-back fit (s .id) rest i)
+
+  pub took-stamp : (bs : List Bool) (s : Stamp) (rest : List Bool) → takeStamp L bs ≡ some (s, rest) → bs ≡ stampBits L s ++ rest
+  unfolding takeStamp stampBits
+  took-stamp bs s rest e =
+      steps _ _ (s, rest) e (λ u r first next.
+      steps _ _ (s, rest) next (λ i end second last.
+      let p = same-value (record { update = u; id = i }) s end rest last in
+      took-name bs u r first .bits ∙ ap (λ (z : List Bool). nameBits L u ++ z) (took-name r i end second .bits)
+      ∙ sym (append-assoc (nameBits L u) (nameBits L i) end)
+      ∙ ap₂ (λ (t : Stamp) (z : List Bool). nameBits L (t .update) ++ nameBits L (t .id) ++ z) (p .0) (p .1)))
+
+  -- where the count can say no more than is allowed, what is read are names
+  pub took-names : 2 ^ L .countBits ≤ L .strings → (bs : List Bool) (s : Stamp) (rest : List Bool) → takeStamp L bs ≡ some (s, rest)
+      → (isName L (s .update) ≡ true) × (isName L (s .id) ≡ true)
+  unfolding takeStamp
+  took-names exact bs s rest e =
+      steps _ _ (s, rest) e (λ u r first next.
+      steps _ _ (s, rest) next (λ i end second last.
+      let p = same-value (record { update = u; id = i }) s end rest last in
+      subst (λ (t : Stamp). (isName L (t .update) ≡ true) × (isName L (t .id) ≡ true)) (p .0) (by u (took-name bs u r first), by i (took-name r i end second))))
+    where
+      by : {bs rest : List Bool} (n : Name) → Found bs n rest → isName L n ≡ true
+      by n f = is-name L n (record { nonempty = f .nonempty; few = omega (arith, f .few); short = f .short; rises = f .rises })

@@ -1,0 +1,123 @@
+-- Packed stamps and bytes that read are one to one. Writing then reading gives a lawful stamp back, and no other stamp has its bytes;
+-- reading then writing gives the bytes back, and no other bytes read as that stamp. Assumes nothing.
+use mathlib.Core.Path.{_≡_, refl, sym, ap, ap₂, _∙_}
+use mathlib.Core.Bool.{Bool, true, false}
+use mathlib.Core.List.{List, [], _∷_, map}
+use mathlib.Core.Option.{Option, none, some, Option·none-ne-some, Option·some-injective}
+use Prim.Native.Nat.{ℕ, _-_, _^_, _≤_}
+use native.Mathlib.Omega.{arith}
+use lib.Dec.{lit≤}
+use lib.ListN.{length, replicate, length-map}
+use lib.Seq.{take-at}
+use Rattle.rules.specs.Limits.{Limits, narrow}
+use Rattle.rules.specs.Strings.{Str, wordOf, strOf}
+use Rattle.rules.specs.Names.{Name, isName}
+use Rattle.rules.specs.Stamps.{Stamp, lawful}
+use Rattle.rules.specs.Stored.{wordsOf, stored, strsIn, held}
+use Rattle.rules.specs.Refusals.{first}
+use Rattle.rules.specs.Packed.{stampBits, packed, bitsOf, Taken, takeStamp, isFilling, filledOnly, unpacked, readAs, readStamp}
+use Rattle.rules.specs.Promises.{WriteRead, ReadWrite}
+use Rattle.rules.specs.declared.Answer.{Answer}
+use Rattle.rules.specs.declared.Answer.the-variants.{Done, Refused}
+use Rattle.laws.proofs.Words.{str-word}
+use Rattle.laws.proofs.Tests.{no}
+use Rattle.layout.proofs.Bytes.{areBytes, fillingOf, packed-bits, filling-is, pack-of-bits}
+use Rattle.layout.proofs.Fields.{let-through}
+use Rattle.layout.proofs.Names.{Fitting, narrow-fits, allShort, named, lawful-names, short-head, short-tail, stamp-back, took-stamp, took-names}
+
+isDone : Answer → Bool
+isDone Done = true
+isDone (Refused r) = false
+
+module _ (L : Limits) where
+  -- ---- stamps and bytes
+
+  pub unpacked-packed : Fitting L → (s : Stamp) → isName L (s .update) ≡ true → isName L (s .id) ≡ true → unpacked L (packed L s) ≡ some s
+  unfolding unpacked packed
+  unpacked-packed fit s u i =
+      let z = fillingOf (length (stampBits L s)) in
+      ap (λ (bs : List Bool). filledOnly (takeStamp L bs)) (packed-bits (stampBits L s)) ∙ ap filledOnly (stamp-back L fit s z u i)
+      ∙ rw (filling-is (length (stampBits L s)))
+
+  filled : {P : Type 0} (t : Taken Stamp) (s : Stamp) → filledOnly t ≡ some s → ((z : List Bool) → t ≡ some (s, z) → isFilling z ≡ true → P) → P
+  filled none s e k = absurd (Option·none-ne-some s e)
+  filled (some g) s e k =
+      let c = let-through (isFilling (g .1)) (some (g .0)) s e in
+      k (g .1) (ap (λ (x : Stamp). some (x, g .1)) (Option·some-injective (g .0) s (c .1))) (c .0)
+
+  pub packed-unpacked : (b : List ℕ) (s : Stamp) → areBytes b ≡ true → unpacked L b ≡ some s → packed L s ≡ b
+  unfolding unpacked packed
+  packed-unpacked b s h e =
+      filled (takeStamp L (bitsOf b)) s e (λ z told zeros. pack-of-bits b (stampBits L s) z h (took-stamp L (bitsOf b) s z told) zeros)
+
+  -- where the count can say no more than is allowed, what is unpacked are names
+  pub unpacked-names : 2 ^ L .countBits ≤ L .strings → (b : List ℕ) (s : Stamp) → unpacked L b ≡ some s
+      → (isName L (s .update) ≡ true) × (isName L (s .id) ≡ true)
+  unfolding unpacked
+  unpacked-names exact b s e = filled (takeStamp L (bitsOf b)) s e (λ z told zeros. took-names L exact (bitsOf b) s z told)
+
+  -- no two lawful stamps have the same bytes
+  pub packed-injective : Fitting L → (s t : Stamp) → lawful L s ≡ true → lawful L t ≡ true → packed L s ≡ packed L t → s ≡ t
+  packed-injective fit s t p q e =
+      let f = lawful-names L s p in
+      let g = lawful-names L t q in
+      Option·some-injective s t (sym (unpacked-packed fit s (f .0) (f .1)) ∙ ap (unpacked L) e ∙ unpacked-packed fit t (g .0) (g .1))
+
+  -- no two runs of bytes read as the same stamp
+  pub unpacked-injective : (a b : List ℕ) (s : Stamp) → areBytes a ≡ true → areBytes b ≡ true → unpacked L a ≡ some s → unpacked L b ≡ some s → a ≡ b
+  unpacked-injective a b s p q e f = sym (packed-unpacked a s p e) ∙ packed-unpacked b s q f
+
+  -- ---- the promises
+
+  -- "write then read gives the stamp back"
+  pub write-read : Fitting L → WriteRead L
+  unfolding readStamp first
+  write-read fit s h =
+      let n = lawful-names L s h in
+      ap (readAs L) (unpacked-packed fit s (n .0) (n .1)) ∙ rw h
+
+  -- what an accepted reading found
+  accepted : {P : Type 0} (o : Option Stamp) → readAs L o .answer ≡ Done
+      → ((s : Stamp) → o ≡ some s → lawful L s ≡ true → readAs L o .stamp ≡ stored L s → P) → P
+  unfolding first isDone
+  accepted none e k = absurd (no (ap isDone e))
+  accepted {P} (some s) e k = by (lawful L s) refl
+    where
+      by : (b : Bool) → lawful L s ≡ b → P
+      by true p = k s refl p (rw p)
+      by false p = absurd (no (ap isDone (rw p at e)))
+
+  -- ---- the record that was read
+
+  module _ (room : L .digits ≤ 58) where
+    strs-words : (n : Name) → allShort L n ≡ true → map strOf (map wordOf n) ≡ n
+    strs-words [] h = refl
+    strs-words (s ∷ n) h =
+        ap₂ (λ (x : Str) (l : Name). x ∷ l) (str-word s (omega (arith, short-head L s n h))) (strs-words n (short-tail L s n h))
+
+    -- a name's record tells the name
+    pub strs-in : (n : Name) → allShort L n ≡ true → strsIn (wordsOf L n) ≡ n
+    unfolding strsIn wordsOf
+    strs-in n h =
+        ap (map strOf) (take-at (map wordOf n) (replicate (L .strings - length n) 0) (length n) (length-map n wordOf)) ∙ strs-words n h
+
+    -- a stamp's record tells the stamp
+    pub held-stored : (s : Stamp) → lawful L s ≡ true → held (stored L s) ≡ s
+    unfolding held stored
+    held-stored s h =
+        let n = lawful-names L s h in
+        λ i. record { update = strs-in (s .update) (named L (s .update) (n .0) .short) i; id = strs-in (s .id) (named L (s .id) (n .1) .short) i }
+
+    -- "for all accepted bytes read then write gives the bytes back"
+    pub read-write : ReadWrite L
+    unfolding readStamp
+    read-write b h e =
+        accepted (unpacked L b) e (λ s told p q. ap (λ r. packed L (held r)) q ∙ ap (packed L) (held-stored s p) ∙ packed-unpacked b s h told)
+
+-- ---- the limits in force
+
+pub narrow-write-read : WriteRead narrow
+narrow-write-read = write-read narrow narrow-fits
+
+pub narrow-read-write : ReadWrite narrow
+narrow-read-write = read-write narrow (lit≤ tt)

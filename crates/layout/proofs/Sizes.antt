@@ -1,0 +1,89 @@
+-- How many bytes a packed stamp takes: as many as hold its bits, and those of a lawful stamp lie between two names of one empty string
+-- and two full ones. Each digit more is one bit more, so both branches of a fork take the same number.
+use mathlib.Core.Path.{_≡_, sym, ap, _∙_}
+use mathlib.Core.Bool.{Bool, true, false}
+use mathlib.Core.List.{[], _∷_}
+use Prim.Native.Nat.{ℕ, _+_, _*_, _-_, _≤_}
+use native.Mathlib.Nat.{mul-le-mul-right}
+use native.Mathlib.Omega.{arith}
+use lib.ListN.{length, length-append}
+use Rattle.rules.specs.Limits.{Limits, narrow, bytesFor, shortest, longest}
+use Rattle.rules.specs.Strings.{Str, _▹_, field}
+use Rattle.rules.specs.Names.{Name, isName}
+use Rattle.rules.specs.Stamps.{Stamp, lawful, append, fork}
+use Rattle.rules.specs.Packed.{stringBits, stringsBits, nameBits, stampBits, packBits, packed}
+use Rattle.laws.proofs.Bits.{field-length}
+use Rattle.layout.proofs.Bytes.{areBytes, pack-length, bytes-are-bytes}
+use Rattle.layout.proofs.Names.{allShort, named, lawful-names, short-head, short-tail}
+
+module _ (L : Limits) where
+  pub packed-length : (s : Stamp) → length (packed L s) ≡ bytesFor (length (stampBits L s))
+  unfolding packed
+  packed-length s = pack-length (stampBits L s)
+
+  pub packed-are-bytes : (s : Stamp) → areBytes (packed L s) ≡ true
+  unfolding packed packBits
+  packed-are-bytes s = bytes-are-bytes (bytesFor (length (stampBits L s))) _
+
+  string-length : (s : Str) → length (stringBits L s) ≡ L .lengthBits + length s
+  unfolding stringBits
+  string-length s = length-append (field (L .lengthBits) (length s)) s ∙ ap (λ (n : ℕ). n + length s) (field-length (L .lengthBits) (length s))
+
+  strings-length : (s : Str) (n : Name) → length (stringsBits L (s ∷ n)) ≡ L .lengthBits + length s + length (stringsBits L n)
+  unfolding stringsBits
+  strings-length s n = length-append (stringBits L s) (stringsBits L n) ∙ ap (λ (k : ℕ). k + length (stringsBits L n)) (string-length s)
+
+  name-length : (n : Name) → length (nameBits L n) ≡ L .countBits + length (stringsBits L n)
+  unfolding nameBits
+  name-length n =
+      length-append (field (L .countBits) (length n - 1)) (stringsBits L n)
+      ∙ ap (λ (k : ℕ). k + length (stringsBits L n)) (field-length (L .countBits) (length n - 1))
+
+  stamp-length : (s : Stamp) → length (stampBits L s) ≡ length (nameBits L (s .update)) + length (nameBits L (s .id))
+  unfolding stampBits
+  stamp-length s = length-append (nameBits L (s .update)) (nameBits L (s .id))
+
+  -- ---- between the shortest and the longest
+
+  strings-most : (n : Name) → allShort L n ≡ true → length (stringsBits L n) ≤ length n * (L .lengthBits + L .digits)
+  unfolding stringsBits
+  strings-most [] h = omega arith
+  strings-most (s ∷ n) h = omega (arith, strings-length s n, short-head L s n h, strings-most n (short-tail L s n h))
+
+  name-least : (n : Name) → isName L n ≡ true → L .countBits + L .lengthBits ≤ length (nameBits L n)
+  name-least [] h = absurd (omega (arith, named L [] h .nonempty))
+  name-least (s ∷ n) h = omega (arith, name-length (s ∷ n), strings-length s n)
+
+  name-most : (n : Name) → isName L n ≡ true → length (nameBits L n) ≤ L .countBits + L .strings * (L .lengthBits + L .digits)
+  name-most n h =
+      let i = named L n h in
+      omega (arith, name-length n, strings-most n (i .short), mul-le-mul-right (L .lengthBits + L .digits) (i .few))
+
+  pub packed-least : (s : Stamp) → lawful L s ≡ true → shortest L ≤ length (packed L s)
+  packed-least s h =
+      let n = lawful-names L s h in
+      omega (arith, packed-length s, stamp-length s, name-least (s .update) (n .0), name-least (s .id) (n .1))
+
+  pub packed-most : (s : Stamp) → lawful L s ≡ true → length (packed L s) ≤ longest L
+  packed-most s h =
+      let n = lawful-names L s h in
+      omega (arith, packed-length s, stamp-length s, name-most (s .update) (n .0), name-most (s .id) (n .1))
+
+  -- ---- a digit more
+
+  grown-length : (d : Bool) (n : Name) → length (stringsBits L (append d n)) ≡ length (stringsBits L n) + length n
+  unfolding append
+  grown-length d [] = omega arith
+  grown-length d (s ∷ n) = omega (arith, strings-length (s ▹ d) (append d n), strings-length s n, grown-length d n, length-append s (d ∷ []))
+
+  -- each string of the id is one bit longer
+  pub fork-bits : (d : Bool) (s : Stamp) → length (stampBits L (fork d s)) ≡ length (stampBits L s) + length (s .id)
+  unfolding fork
+  fork-bits d s = omega (arith, stamp-length (fork d s), stamp-length s, name-length (append d (s .id)), name-length (s .id), grown-length d (s .id))
+
+  pub forks-length : (s : Stamp) → length (packed L (fork false s)) ≡ length (packed L (fork true s))
+  forks-length s = packed-length (fork false s) ∙ ap bytesFor (fork-bits false s ∙ sym (fork-bits true s)) ∙ sym (packed-length (fork true s))
+
+-- "That is 3 to 117 bytes"
+pub packed-narrow : (s : Stamp) → lawful narrow s ≡ true → (3 ≤ length (packed narrow s)) × (length (packed narrow s) ≤ 117)
+packed-narrow s h = (packed-least narrow s h, packed-most narrow s h)

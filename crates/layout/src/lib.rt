@@ -1,0 +1,1 @@
+// No code: the laws of proofs/ are what this crate is for.
