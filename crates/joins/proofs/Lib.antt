@@ -1,2 +1,5 @@
 -- Laws that several proofs cite.
 pub mod Passes
+pub mod Strings
+pub mod Adding
+pub mod Settling
