@@ -11,7 +11,7 @@ use lib.Seq.{sets, sets-eq, getD-append-seam}
 use Rattle.rules.specs.Strings.{digit}
 use Rattle.joins.specs.declared.Turn.{Turn}
 use Rattle.joins.specs.declared.Wide.{Wide}
-use Rattle.joins.specs.Passes.{opt, addedBy, settledBy, prefixW, grownW, addedTurn, settledTurn, turnOf, passBy, passW, heldFrom, held, wide}
+use Rattle.joins.specs.Passes.{opt, addedBy, settledBy, prefixW, grownW, addedTurn, settledTurn, turnOf, passBy, passW, run, front, wide}
 
 pub opt-length : {A : Type 0} (b : Bool) (x : A) → length (opt b x) ≡ digit b
 opt-length true x = refl
@@ -28,36 +28,36 @@ sets-append (x ∷ a) b l i =
 
 -- ---- the words from an index on
 
-pub held-more : (ws : List ℕ) (i c : ℕ) → i < c → heldFrom ws i (c - i) ≡ getD ws i 0 ∷ heldFrom ws (i + 1) (c - (i + 1))
-unfolding heldFrom
-held-more ws i c h =
-    ap (heldFrom ws i) (let e : c - i ≡ suc (c - (i + 1)) = omega arith in e)
-    ∙ ap (λ (n : ℕ). getD ws i 0 ∷ heldFrom ws n (c - (i + 1))) (sym (add-one i))
+pub run-more : (ws : List ℕ) (i c : ℕ) → i < c → run ws i (c - i) ≡ getD ws i 0 ∷ run ws (i + 1) (c - (i + 1))
+unfolding run
+run-more ws i c h =
+    ap (run ws i) (let e : c - i ≡ suc (c - (i + 1)) = omega arith in e)
+    ∙ ap (λ (n : ℕ). getD ws i 0 ∷ run ws n (c - (i + 1))) (sym (add-one i))
 
-pub held-end : (ws : List ℕ) (i c : ℕ) → c ≤ i → heldFrom ws i (c - i) ≡ []
-unfolding heldFrom
-held-end ws i c h = ap (heldFrom ws i) (let e : c - i ≡ 0 = omega arith in e)
+pub run-end : (ws : List ℕ) (i c : ℕ) → c ≤ i → run ws i (c - i) ≡ []
+unfolding run
+run-end ws i c h = ap (run ws i) (let e : c - i ≡ 0 = omega arith in e)
 
-pub held-start : (ws : List ℕ) (c : ℕ) → heldFrom ws 0 (c - 0) ≡ held ws c
-held-start ws c = ap (heldFrom ws 0) (let e : c - 0 ≡ c = omega arith in e)
+pub run-start : (ws : List ℕ) (c : ℕ) → run ws 0 (c - 0) ≡ front ws c
+run-start ws c = ap (run ws 0) (let e : c - 0 ≡ c = omega arith in e)
 
-pub held-length : (ws : List ℕ) (i c : ℕ) → length (heldFrom ws i c) ≡ c
-unfolding heldFrom
-held-length ws i zero = refl
-held-length ws i (suc c) = ap suc (held-length ws (suc i) c)
+pub run-length : (ws : List ℕ) (i c : ℕ) → length (run ws i c) ≡ c
+unfolding run
+run-length ws i zero = refl
+run-length ws i (suc c) = ap suc (run-length ws (suc i) c)
 
 -- the words of a list that stands between two others
-held-part : (p l r : List ℕ) → heldFrom (p ++ (l ++ r)) (length p) (length l) ≡ l
-unfolding heldFrom
-held-part p [] r = refl
-held-part p (x ∷ l) r =
+run-part : (p l r : List ℕ) → run (p ++ (l ++ r)) (length p) (length l) ≡ l
+unfolding run
+run-part p [] r = refl
+run-part p (x ∷ l) r =
     ap₂ (λ (y : ℕ) (z : List ℕ). y ∷ z) (getD-append-seam p x (l ++ r) 0)
-    (ap₂ (λ (q : List ℕ) (n : ℕ). heldFrom q n (length l)) (sym (append-assoc p (x ∷ []) (l ++ r)))
+    (ap₂ (λ (q : List ℕ) (n : ℕ). run q n (length l)) (sym (append-assoc p (x ∷ []) (l ++ r)))
     (sym (length-append p (x ∷ []) ∙ (let e : length p + 1 ≡ suc (length p) = omega arith in e)))
-    ∙ held-part (p ++ (x ∷ [])) l r)
+    ∙ run-part (p ++ (x ∷ [])) l r)
 
-pub held-front : (l r : List ℕ) → held (l ++ r) (length l) ≡ l
-held-front l r = held-part [] l r
+pub front-append : (l r : List ℕ) → front (l ++ r) (length l) ≡ l
+front-append l r = run-part [] l r
 
 -- a list written to the front of zeros
 pub sets-zeros : (k : ℕ) (l : List ℕ) → length l ≤ k → sets (replicate k 0) 0 l ≡ l ++ replicate (k - length l) 0
@@ -71,14 +71,14 @@ sets-zeros k l h =
     dropped (suc k) (suc n) = dropped k n ∙ ap (λ (n : ℕ). replicate n 0) (let e : k - n ≡ suc k - suc n = omega arith in e)
 
 -- a working name tells the words that it was made of
-pub held-wide : (l : List ℕ) → length l ≤ 32 → held (wide l .words) (length l) ≡ l
-held-wide l h = ap (λ (q : List ℕ). heldFrom q 0 (length l)) (sets-zeros 32 l h) ∙ held-front l (replicate (32 - length l) 0)
+pub front-wide : (l : List ℕ) → length l ≤ 32 → front (wide l .words) (length l) ≡ l
+front-wide l h = ap (λ (q : List ℕ). run q 0 (length l)) (sets-zeros 32 l h) ∙ front-append l (replicate (32 - length l) 0)
 
 pub wide-is : (r : Wide) (l : List ℕ) → r .count ≡ length l → r .words ≡ sets (replicate 32 0) 0 l → r ≡ wide l
 wide-is r l p q = λ i. record { count = p i; words = q i }
 
-pub wide-self : (r : Wide) (l : List ℕ) → length l ≤ 32 → r ≡ wide l → held (r .words) (r .count) ≡ l
-wide-self r l h e = ap (λ (w : Wide). held (w .words) (w .count)) e ∙ held-wide l h
+pub wide-self : (r : Wide) (l : List ℕ) → length l ≤ 32 → r ≡ wide l → front (r .words) (r .count) ≡ l
+wide-self r l h e = ap (λ (w : Wide). front (w .words) (w .count)) e ∙ front-wide l h
 
 -- ---- one turn
 

@@ -55,12 +55,12 @@ abbrev pub passW : Bool → ℕ → List ℕ → List ℕ
 passW adding s l = passBy (turnOf adding s) adding s false l
 
 -- c words from index i on; no length is asked
-unfoldable pub heldFrom : List ℕ → ℕ → ℕ → List ℕ
-heldFrom ws i zero = []
-heldFrom ws i (suc c) = getD ws i 0 ∷ heldFrom ws (suc i) c
+unfoldable pub run : List ℕ → ℕ → ℕ → List ℕ
+run ws i zero = []
+run ws i (suc c) = getD ws i 0 ∷ run ws (suc i) c
 
-abbrev pub held : List ℕ → ℕ → List ℕ
-held ws c = heldFrom ws 0 c
+abbrev pub front : List ℕ → ℕ → List ℕ
+front ws c = run ws 0 c
 
 -- the working name that holds these words, and zeros behind them
 abbrev pub wide : List ℕ → Wide

@@ -5,7 +5,7 @@ ghost use Prim.Native.Nat.{ℕ, _≤_, _<_, _+_};
 ghost use lib.ListN.{length};
 ghost use lib.Seq.{sets};
 ghost use Rattle.rules.specs.Strings.{digit};
-ghost use Rattle.joins.specs.Passes.{opt, turnOf, addedTurn, settledTurn, passW, held, wide};
+ghost use Rattle.joins.specs.Passes.{opt, turnOf, addedTurn, settledTurn, passW, front, wide};
 use rules::{Answer, Given, Record, Refusal, Words};
 use strings::is_prefix;
 
@@ -81,7 +81,7 @@ fn push(out: Wide, yes: bool, x: u64) -> Wide
 // One pass over n: s is added, or it is put in the place of s0 and s1.
 fn pass(n: Wide, s: u64, adding: bool) -> Wide
     requires { ⌜ n .count + digit adding ≤ 32 ⌝ }
-    ensures { λ r. ⌜ r ≡ wide (passW adding s (held (n .words) (n .count))) ⌝ }
+    ensures { λ r. ⌜ r ≡ wide (passW adding s (front (n .words) (n .count))) ⌝ }
 {
     let c = n.count;
     let w = [0; 32];

@@ -10,16 +10,16 @@ use lib.Seq.{sets}
 use Rattle.rules.specs.Strings.{digit}
 use Rattle.joins.specs.declared.Wide.{Wide}
 use Rattle.joins.specs.declared.Turn.{Turn}
-use Rattle.joins.specs.Passes.{opt, turnOf, passW, held, heldFrom, wide}
-use Rattle.joins.proofs.Passes.{opt-length, rest, turn-fits, turn-count, turn-words, pass-end, pass-length, held-more, held-end, held-start, held-length, wide-is}
+use Rattle.joins.specs.Passes.{opt, turnOf, passW, front, run, wide}
+use Rattle.joins.proofs.Passes.{opt-length, rest, turn-fits, turn-count, turn-words, pass-end, pass-length, run-more, run-end, run-start, run-length, wide-is}
 use Rattle.joins.proofs.pass.Statement.{statement}
 use Rattle.joins.proofs.pass.Tie as tie
 
 abbrev Inv-loop : tie.InvT-loop
 Inv-loop s adding n c out₀ placed₀ i₀ out placed i =
     (i ≤ c)
-    × (out .count + length (rest adding s placed (heldFrom (n .words) i (c - i))) ≡ length (passW adding s (held (n .words) c)))
-    × (sets (out .words) (out .count) (rest adding s placed (heldFrom (n .words) i (c - i))) ≡ sets (replicate 32 0) 0 (passW adding s (held (n .words) c)))
+    × (out .count + length (rest adding s placed (run (n .words) i (c - i))) ≡ length (passW adding s (front (n .words) c)))
+    × (sets (out .words) (out .count) (rest adding s placed (run (n .words) i (c - i))) ≡ sets (replicate 32 0) 0 (passW adding s (front (n .words) c)))
 
 abbrev μ-loop : tie.MeasureT-loop
 μ-loop s adding n c out₀ placed₀ i₀ out placed i = c - i
@@ -48,18 +48,18 @@ module _ (l : tie.At-loop Inv-loop μ-loop) where
   t = getD ws i 0
 
   abbrev tail : List ℕ
-  tail = heldFrom ws (i + 1) (n - (i + 1))
+  tail = run ws (i + 1) (n - (i + 1))
 
   -- what is left to write, at the end and in a turn
-  last : n ≤ i → rest adding s (l .loop .placed) (heldFrom ws i (n - i)) ≡ opt (adding && not (l .loop .placed)) s
-  last h = ap (rest adding s (l .loop .placed)) (held-end ws i n h) ∙ pass-end (turnOf adding s) adding s (l .loop .placed)
+  last : n ≤ i → rest adding s (l .loop .placed) (run ws i (n - i)) ≡ opt (adding && not (l .loop .placed)) s
+  last h = ap (rest adding s (l .loop .placed)) (run-end ws i n h) ∙ pass-end (turnOf adding s) adding s (l .loop .placed)
 
-  more : i < n → rest adding s (l .loop .placed) (heldFrom ws i (n - i)) ≡ rest adding s (l .loop .placed) (t ∷ tail)
-  more h = ap (rest adding s (l .loop .placed)) (held-more ws i n h)
+  more : i < n → rest adding s (l .loop .placed) (run ws i (n - i)) ≡ rest adding s (l .loop .placed) (t ∷ tail)
+  more h = ap (rest adding s (l .loop .placed)) (run-more ws i n h)
 
   -- there is room for it
-  room : out .count + length (rest adding s (l .loop .placed) (heldFrom ws i (n - i))) ≤ 32
-  room = omega (arith, l .loop .inv .1, pass-length adding s (held ws n), held-length ws 0 n)
+  room : out .count + length (rest adding s (l .loop .placed) (run ws i (n - i))) ≤ 32
+  room = omega (arith, l .loop .inv .1, pass-length adding s (front ws n), run-length ws 0 n)
 
   turn-room : i < n → (d : Turn) → d ≡ turnOf adding s t (l .loop .placed) → out .count + (digit (d .first) + digit (d .keep)) ≤ 32
   turn-room h d e = omega (arith, room, ap length (more h), turn-fits adding s t (l .loop .placed) tail d e)
@@ -67,7 +67,7 @@ module _ (l : tie.At-loop Inv-loop μ-loop) where
 loop-holds : tie.Need-loop-holds Inv-loop μ-loop
 loop-holds c =
     let g = c .args .t1 in
-    (search needs, rw (held-start (g .words) (g .count)) (omega arith), rw (held-start (g .words) (g .count)) refl)
+    (search needs, rw (run-start (g .words) (g .count)) (omega arith), rw (run-start (g .words) (g .count)) refl)
 
 mul-t : tie.Need-mul-t Inv-loop μ-loop
 mul-t c = search needs
@@ -123,7 +123,7 @@ returns : tie.Need-returns Inv-loop μ-loop
 returns c =
     let l = c .before .before in
     let z = sym (last l (omega arith)) in
-    wide-is (c .push3 .result) (passW (adding l) (s l) (held (ws l) (n l)))
+    wide-is (c .push3 .result) (passW (adding l) (s l) (front (ws l) (n l)))
     (c .push3 .ensures .0 ∙ ap (λ (x : List ℕ). out l .count + length x) z ∙ l .loop .inv .1)
     (c .push3 .ensures .1 ∙ ap (sets (out l .words) (out l .count)) z ∙ l .loop .inv .2)
 
