@@ -1,0 +1,2 @@
+-- What every history of calls keeps, one kind of step a file, each above those that cite it.
+pub mod Config
