@@ -6,3 +6,7 @@ pub mod Bits
 pub mod Below
 pub mod Union
 pub mod Settle
+pub mod Counts
+pub mod Fork
+pub mod Proper
+pub mod Lawful
