@@ -4,7 +4,7 @@ use mathlib.Core.Path.{_≡_, refl, sym, ap, _∙_, subst}
 use mathlib.Core.Bool.{Bool, true, false, cond}
 use mathlib.Core.List.{List, [], _∷_, _++_}
 use mathlib.Core.Logic.{_⊎_, inl, inr, ⊎-elim}
-use Prim.Native.Nat.{ℕ, zero, suc, _≤_, _<_}
+use Prim.Native.Nat.{ℕ, _≤_, _<_}
 use native.Mathlib.Omega.{arith}
 use lib.Dec.{eqb}
 use lib.ListN.{length}
@@ -12,7 +12,7 @@ use borrow.Author.Tests.{eqb-true, eqb-false}
 use Rattle.rules.specs.Strings.{Str, prefix}
 use Rattle.rules.specs.Names.{all, rising, covered, below}
 use Rattle.rules.specs.Stamps.{Stamp, start}
-use Rattle.laws.proofs.Tests.{no, In, in-left, in-right, in-append}
+use Rattle.laws.proofs.Tests.{In, in-left, in-right, in-append}
 use Rattle.laws.proofs.Below.{covered-some, some-covered, in-covered, covered-down, below-refl}
 
 -- one slot for each number; what an absent slot holds makes no difference
@@ -197,6 +197,25 @@ module _ (C D : Config) (old : ℕ → List ℕ) (m : Reads C D old) (q : Sound 
       let c = covers-back S g (t .one) (u (t .one) (t .inside)) in
       record { slot = c .slot; inside = c .inside; holds = covered-down r (t .one) (C .stamp (c .slot) .update) (t .passes) (c .holds) }) e (a .holds))
 
+-- ---- each slot of D holds what one slot of C held
+
+pub record Moved (C D : Config) (old : ℕ → ℕ) : Type 0 where
+  pub slots : (x : ℕ) → D .present x ≡ true → C .present (old x) ≡ true
+  pub updates : (x : ℕ) → D .present x ≡ true → D .stamp x .update ≡ C .stamp (old x) .update
+  pub sets : (x : ℕ) → D .present x ≡ true → D .events x ≡ C .events (old x)
+  pub next : D .next ≡ C .next
+
+pub moved-reads : (C D : Config) (old : ℕ → ℕ) → Moved C D old → Reads C D (λ x. old x ∷ [])
+moved-reads C D old m = record {
+  slots = λ x y p i. rw (in-one (old x) y i) (m .slots x p);
+  one = λ x p. (old x, inl refl);
+  eventsBack = λ x e p i. record { slot = old x; inside = inl refl; holds = rw (m .sets x p) at i };
+  eventsOn = λ x y e p i j. rw (m .sets x p) (rw (in-one (old x) y i) at j);
+  updateBack = λ x r p i. record { slot = old x; inside = inl refl; holds = rw (m .updates x p) at i };
+  updateOn = λ x y r p i j. in-covered r (D .stamp x .update) (rw (m .updates x p) (rw (in-one (old x) y i) at j));
+  next = m .next;
+}
+
 -- ---- forgetting slots
 
 -- D has slots of C only, and there what C has
@@ -206,35 +225,22 @@ pub record Part (C D : Config) : Type 0 where
   pub sets : (x : ℕ) → D .present x ≡ true → D .events x ≡ C .events x
   pub next : D .next ≡ C .next
 
-module _ (C D : Config) (m : Part C D) where
-  part-reads : Reads C D (λ x. x ∷ [])
-  part-reads = record {
-    slots = λ x y p i. subst (λ (z : ℕ). C .present z ≡ true) (sym (in-one x y i)) (m .slots x p);
-    one = λ x p. (x, inl refl);
-    eventsBack = λ x e p i. record { slot = x; inside = inl refl; holds = subst (In e) (m .sets x p) i };
-    eventsOn = λ x y e p i j. subst (In e) (sym (m .sets x p)) (subst (λ (z : ℕ). In e (C .events z)) (in-one x y i) j);
-    updateBack = λ x r p i. record { slot = x; inside = inl refl; holds = subst (λ (z : Stamp). In r (z .update)) (m .stamps x p) i };
-    updateOn = λ x y r p i j.
-        in-covered r (D .stamp x .update)
-        (subst (λ (z : Stamp). In r (z .update)) (sym (m .stamps x p)) (subst (λ (z : ℕ). In r (C .stamp z .update)) (in-one x y i) j));
-    next = m .next;
-  }
-
-  pub sound-part : Sound C → Sound D
-  sound-part q = record {
-    proper = λ a p. subst Proper (sym (m .stamps a p)) (q .proper a (m .slots a p));
-    nonempty = reads-nonempty C D (λ x. x ∷ []) part-reads q;
-    apart = λ a b s t p o i j.
-        q .apart a b s t (m .slots a p) (m .slots b o) (subst (λ (z : Stamp). In s (z .id)) (m .stamps a p) i)
-        (subst (λ (z : Stamp). In t (z .id)) (m .stamps b o) j);
-    seen = λ a b r p o i e.
-        subst (λ (z : Stamp). covered r (z .update) ≡ true) (sym (m .stamps b o))
-        (q .seen a b r (m .slots a p) (m .slots b o) (subst (λ (z : Stamp). In r (z .update)) (m .stamps a p) i)
-        (subst (λ (z : Stamp). covered r (z .id) ≡ true) (m .stamps b o) e));
-    fresh = reads-fresh C D (λ x. x ∷ []) part-reads q;
-    known = reads-known C D (λ x. x ∷ []) part-reads q;
-    shown = reads-shown C D (λ x. x ∷ []) part-reads q;
-  }
+pub sound-part : (C D : Config) → Part C D → Sound C → Sound D
+sound-part C D m q = record {
+  proper = λ a p. rw (m .stamps a p) (q .proper a (m .slots a p));
+  nonempty = reads-nonempty C D (λ x. x ∷ []) reads q;
+  apart = λ a b s t p o i j. q .apart a b s t (m .slots a p) (m .slots b o) (rw (m .stamps a p) at i) (rw (m .stamps b o) at j);
+  seen = λ a b r p o i e.
+      rw (m .stamps b o) (q .seen a b r (m .slots a p) (m .slots b o) (rw (m .stamps a p) at i) (rw (m .stamps b o) at e));
+  fresh = reads-fresh C D (λ x. x ∷ []) reads q;
+  known = reads-known C D (λ x. x ∷ []) reads q;
+  shown = reads-shown C D (λ x. x ∷ []) reads q;
+}
+  where
+    reads : Reads C D (λ x. x ∷ [])
+    reads =
+        moved-reads C D (λ x. x)
+        (record { slots = m .slots; updates = λ x p. ap (λ (z : Stamp). z .update) (m .stamps x p); sets = m .sets; next = m .next })
 
 -- what absent slots hold makes no difference
 pub sound-same : (C D : Config) → ((x : ℕ) → D .present x ≡ C .present x) → ((x : ℕ) → C .present x ≡ true → D .stamp x ≡ C .stamp x)

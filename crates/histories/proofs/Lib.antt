@@ -1,3 +1,4 @@
 -- What every history of calls keeps, one kind of step a file, each above those that cite it.
 pub mod Config
 pub mod Update
+pub mod Fork
