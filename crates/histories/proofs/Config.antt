@@ -127,13 +127,13 @@ some-length (x ∷ S) b i = omega arith
 
 module _ (C D : Config) (old : ℕ → List ℕ) (m : Reads C D old) (q : Sound C) where
   -- what D's name covers, one of the old names covers
-  covered-back : (x : ℕ) (r : Str) → D .present x ≡ true → covered r (D .stamp x .update) ≡ true → Covers C (old x) r
+  pub covered-back : (x : ℕ) (r : Str) → D .present x ≡ true → covered r (D .stamp x .update) ≡ true → Covers C (old x) r
   covered-back x r p e =
       let t = covered-some r (D .stamp x .update) e in
       let a = m .updateBack x (t .one) p (t .inside) in
       record { slot = a .slot; inside = a .inside; holds = some-covered r (C .stamp (a .slot) .update) (t .one) (a .holds) (t .passes) }
 
-  covered-on : (x y : ℕ) (r : Str) → D .present x ≡ true → In y (old x) → covered r (C .stamp y .update) ≡ true → covered r (D .stamp x .update) ≡ true
+  pub covered-on : (x y : ℕ) (r : Str) → D .present x ≡ true → In y (old x) → covered r (C .stamp y .update) ≡ true → covered r (D .stamp x .update) ≡ true
   covered-on x y r p i e =
       let t = covered-some r (C .stamp y .update) e in
       covered-down r (t .one) (D .stamp x .update) (t .passes) (m .updateOn x y (t .one) p i (t .inside))

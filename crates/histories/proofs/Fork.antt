@@ -56,10 +56,12 @@ module _ (C : Config) (q : Sound C) (a b : ℕ) (pa : C .present a ≡ true) whe
       at : (x : ℕ) → Where b x → D .present x ≡ true → C .present (old x) ≡ true
       at x (here e c) p = rw c pa
       at x (there n c) p = rw c (rw c at p)
+
       by : (x : ℕ) → Where b x → Where a x → D .stamp x .update ≡ C .stamp (old x) .update
       by x (here e c) w = rw c
       by x (there n c) (here e k) = rw (c, k, e)
       by x (there n c) (there m k) = rw (c, k)
+
       events : (x : ℕ) → Where b x → D .events x ≡ C .events (old x)
       events x (here e c) = rw c
       events x (there n c) = rw c
@@ -146,10 +148,13 @@ module _ (C : Config) (q : Sound C) (a b : ℕ) (pa : C .present a ≡ true) whe
     where
       z : ℕ
       z = old x
+
       pz : C .present z ≡ true
       pz = moved .slots x px
+
       k : In r (C .stamp z .update)
       k = rw (moved .updates x px) at i
+
       by : Place y → covered r (D .stamp y .update) ≡ true
       by (other n o e) = rw e (q .seen z y r pz o k (rw e at h))
       by (branch d f e) =

@@ -2,3 +2,4 @@
 pub mod Config
 pub mod Update
 pub mod Fork
+pub mod Unite
