@@ -10,3 +10,7 @@ pub mod Counts
 pub mod Fork
 pub mod Proper
 pub mod Lawful
+pub mod Sums
+pub mod Steps
+pub mod Reduce
+pub mod Shares
