@@ -10,10 +10,11 @@ use lib.Dec.{eqb}
 use lib.ListN.{length}
 use borrow.Author.Tests.{eqb-true, eqb-false}
 use Rattle.rules.specs.Strings.{Str, prefix}
-use Rattle.rules.specs.Names.{all, rising, covered, below}
+use Rattle.rules.specs.Names.{all, rising, covered}
 use Rattle.rules.specs.Stamps.{Stamp, start}
 use Rattle.laws.proofs.Tests.{In, in-left, in-right, in-append}
 use Rattle.laws.proofs.Below.{covered-some, some-covered, in-covered, covered-down, below-refl}
+use Rattle.laws.proofs.Steps.{Proper}
 
 -- one slot for each number; what an absent slot holds makes no difference
 pub record Config : Type 0 where
@@ -62,12 +63,6 @@ Within C x S = (e : ℕ) → In e (C .events x) → Seen C S e
 -- x's update name is below the union of those of S
 abbrev pub Under : Config → ℕ → List ℕ → Type 0
 Under C x S = (r : Str) → In r (C .stamp x .update) → Covers C S r
-
--- a stamp of two names, the first below the second, without limits; the id may hold pairs
-pub record Proper (x : Stamp) : Type 0 where
-  pub updateRising : rising (x .update) ≡ true
-  pub idRising : rising (x .id) ≡ true
-  pub belowId : below (x .update) (x .id) ≡ true
 
 pub record Sound (C : Config) : Type 0 where
   -- Invariant 4.4, and that both are names

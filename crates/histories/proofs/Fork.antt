@@ -13,7 +13,8 @@ use Rattle.laws.proofs.Tests.{clash, In}
 use Rattle.laws.proofs.Prefix.{prefix-trans, prefix-grown, prefix-of-grown, grown-not-prefix}
 use Rattle.laws.proofs.Below.{covered-some, below-each}
 use Rattle.laws.proofs.Fork.{grown-is, Grown, append-in, append-rising, covered-append, below-append}
-use Rattle.histories.proofs.Config.{Config, put, Where, here, there, is-where, Proper, Sound, Reads, Moved, moved-reads, reads-nonempty, reads-fresh, reads-known, reads-shown}
+use Rattle.laws.proofs.Steps.{Proper}
+use Rattle.histories.proofs.Config.{Config, put, Where, here, there, is-where, Sound, Reads, Moved, moved-reads, reads-nonempty, reads-fresh, reads-known, reads-shown}
 
 -- slot a forked, with the 1 branch in slot b
 abbrev pub forked : ℕ → ℕ → Config → Config

@@ -3,3 +3,4 @@ pub mod Config
 pub mod Update
 pub mod Fork
 pub mod Unite
+pub mod Settle

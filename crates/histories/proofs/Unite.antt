@@ -12,7 +12,8 @@ use Rattle.rules.specs.Stamps.{Stamp, unite}
 use Rattle.laws.proofs.Tests.{no, or-left, or-right, In, in-left, in-right, in-append}
 use Rattle.laws.proofs.Below.{covered-some, some-covered, in-covered}
 use Rattle.laws.proofs.Union.{union-top, union-rising, covered-union, union-mono}
-use Rattle.histories.proofs.Config.{Config, put, Where, here, there, is-where, Among, Proper, Sound, Reads, in-one, covered-on, reads-nonempty, reads-fresh, reads-known, reads-shown}
+use Rattle.laws.proofs.Steps.{Proper}
+use Rattle.histories.proofs.Config.{Config, put, Where, here, there, is-where, Among, Sound, Reads, in-one, covered-on, reads-nonempty, reads-fresh, reads-known, reads-shown}
 
 -- slots a and b united in slot a
 abbrev pub united : ℕ → ℕ → Config → Config

@@ -13,7 +13,8 @@ use Rattle.rules.specs.Names.{covered}
 use Rattle.rules.specs.Stamps.{Stamp, update}
 use Rattle.laws.proofs.Tests.{In}
 use Rattle.laws.proofs.Below.{covered-some, in-covered, covered-below, below-each, below-refl}
-use Rattle.histories.proofs.Config.{Config, put, Where, here, there, is-where, Among, Seen, Covers, AllPresent, Within, Under, Proper, Sound}
+use Rattle.laws.proofs.Steps.{Proper}
+use Rattle.histories.proofs.Config.{Config, put, Where, here, there, is-where, Among, Seen, Covers, AllPresent, Within, Under, Sound}
 
 -- slot a after an update, with the next event
 abbrev pub updated : ℕ → Config → Config
