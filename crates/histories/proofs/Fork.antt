@@ -2,13 +2,12 @@
 -- cover grows by those strings alone, which no update name covers. Assumes nothing.
 use mathlib.Core.Path.{_≡_, refl, sym, ap, _∙_, subst}
 use mathlib.Core.Bool.{Bool, true, false, cond}
-use mathlib.Core.List.{List, [], _∷_}
-use mathlib.Core.Logic.{_⊎_, inl, inr, ⊎-elim}
+use mathlib.Core.List.{[], _∷_}
+use mathlib.Core.Logic.{_⊎_, ⊎-elim}
 use Prim.Native.Nat.{ℕ}
-use lib.Dec.{eqb}
 use Rattle.rules.specs.Strings.{Str, prefix, _▹_}
 use Rattle.rules.specs.Names.{Name, covered}
-use Rattle.rules.specs.Stamps.{Stamp, append, fork}
+use Rattle.rules.specs.Stamps.{append, fork}
 use Rattle.laws.proofs.Tests.{clash, In}
 use Rattle.laws.proofs.Prefix.{prefix-trans, prefix-grown, prefix-of-grown, grown-not-prefix}
 use Rattle.laws.proofs.Below.{covered-some, below-each}

@@ -4,3 +4,4 @@ pub mod Update
 pub mod Fork
 pub mod Unite
 pub mod Settle
+pub mod Join

@@ -1,22 +1,21 @@
 -- One step of reduction keeps a configuration sound: s0 and s1 give way to s in one copy, and no other copy's id covers any of the three
 -- (Invariant 4.5), so nothing that another copy's name is asked changes (section 6 of the paper). Assumes nothing.
 use mathlib.Core.Path.{_≡_, refl, sym, _∙_, subst}
-use mathlib.Core.Bool.{Bool, true, false, cond}
-use mathlib.Core.List.{List, [], _∷_}
-use mathlib.Core.Logic.{_⊎_, inl, inr, ⊎-elim}
+use mathlib.Core.Bool.{Bool, true, false}
+use mathlib.Core.List.{List, []}
+use mathlib.Core.Logic.{inr, ⊎-elim}
 use Prim.Native.Nat.{ℕ, _≤_}
-use lib.Dec.{eqb}
 use lib.ListN.{length}
 use Rattle.rules.specs.Strings.{Str, prefix, _▹_}
 use Rattle.rules.specs.Names.{covered}
-use Rattle.rules.specs.Stamps.{Stamp, settle, settled}
+use Rattle.rules.specs.Stamps.{settle, settled}
 use Rattle.laws.proofs.Tests.{clash, decide, In}
-use Rattle.laws.proofs.Prefix.{prefix-trans, prefix-refl, prefix-grown, prefix-goes-on, grown-not-prefix}
+use Rattle.laws.proofs.Prefix.{prefix-grown, prefix-goes-on, grown-not-prefix}
 use Rattle.laws.proofs.Rising.{rising-antichain}
 use Rattle.laws.proofs.Below.{covered-some, some-covered, in-covered, covered-down, covered-below}
 use Rattle.laws.proofs.Settle.{Other, Way, holds, lacks, way, settle-in, in-settle}
 use Rattle.laws.proofs.Steps.{Proper, settle-covered, covered-settle, covered-settle-update, settled-proper}
-use Rattle.histories.proofs.Config.{Config, put, Where, here, there, is-where, Among, Seen, Covers, AllPresent, Within, Under, Sound}
+use Rattle.histories.proofs.Config.{Config, put, Where, here, there, is-where, Covers, AllPresent, Within, Under, Sound}
 
 -- one step of reduction in slot c
 abbrev pub settledAt : ℕ → Str → Config → Config

@@ -1,20 +1,19 @@
 -- An update keeps a configuration sound: the new event is in no other copy, no other copy covers a string of the updated copy's id,
 -- and what its id covers of another's update name it had seen before (Invariant 4.6). Assumes nothing.
 use mathlib.Core.Path.{_≡_, refl, sym, _∙_, subst}
-use mathlib.Core.Bool.{Bool, true, false, cond}
-use mathlib.Core.List.{List, [], _∷_}
-use mathlib.Core.Logic.{_⊎_, inl, inr, ⊎-elim}
+use mathlib.Core.Bool.{true}
+use mathlib.Core.List.{List, _∷_}
+use mathlib.Core.Logic.{inl, inr, ⊎-elim}
 use Prim.Native.Nat.{ℕ, suc, _≤_, _<_}
 use native.Mathlib.Omega.{arith}
-use lib.Dec.{eqb}
 use lib.ListN.{length}
-use Rattle.rules.specs.Strings.{Str, prefix}
+use Rattle.rules.specs.Strings.{Str}
 use Rattle.rules.specs.Names.{covered}
-use Rattle.rules.specs.Stamps.{Stamp, update}
+use Rattle.rules.specs.Stamps.{update}
 use Rattle.laws.proofs.Tests.{In}
 use Rattle.laws.proofs.Below.{covered-some, in-covered, covered-below, below-each, below-refl}
 use Rattle.laws.proofs.Steps.{Proper}
-use Rattle.histories.proofs.Config.{Config, put, Where, here, there, is-where, Among, Seen, Covers, AllPresent, Within, Under, Sound}
+use Rattle.histories.proofs.Config.{Config, put, Where, here, there, is-where, Seen, Covers, AllPresent, Within, Under, Sound}
 
 -- slot a after an update, with the next event
 abbrev pub updated : ℕ → Config → Config
