@@ -42,11 +42,11 @@ module _ {A B : Type 0} (R : A → B → Type 0) where
     pub meets : R x one
 
   -- no two places of the list meet one element
-  abbrev pub Apart : List A → Type 0
-  Apart [] = Unit {0}
-  Apart (x ∷ l) = ((y : A) → In y l → (z : B) → R x z → R y z → ⊥) × Apart l
+  abbrev pub Unshared : List A → Type 0
+  Unshared [] = Unit {0}
+  Unshared (x ∷ l) = ((y : A) → In y l → (z : B) → R x z → R y z → ⊥) × Unshared l
 
-  pub one-to-one : (l : List A) (m : List B) → Apart l → ((x : A) → In x l → Met x m) → length l ≤ length m
+  pub one-to-one : (l : List A) (m : List B) → Unshared l → ((x : A) → In x l → Met x m) → length l ≤ length m
   one-to-one [] m a f = zero-le
   one-to-one (x ∷ l) m a f =
       let h = f x (inl refl) in
@@ -57,18 +57,18 @@ module _ {A B : Type 0} (R : A → B → Type 0) where
       omega (arith, r .fewer)
 
 -- no two strings of a rising list are prefixes of one string
-pub rising-apart : (n : Name) → rising n ≡ true → Apart (λ s t. prefix s t ≡ true) n
-rising-apart [] h = tt
-rising-apart (s ∷ n) h = (
+pub rising-unshared : (n : Name) → rising n ≡ true → Unshared (λ s t. prefix s t ≡ true) n
+rising-unshared [] h = tt
+rising-unshared (s ∷ n) h = (
   λ y i z p q. let a = less-apart s y (rising-head s n h y i) in
       ⊎-elim (λ e. clash e (a .0)) (λ e. clash e (a .1)) (prefix-comparable s y z p q),
-  rising-apart n (rising-tail s n h),
+  rising-unshared n (rising-tail s n h),
 )
 
 -- "u never has more strings than i"
 pub count-below : (u i : Name) → rising u ≡ true → below u i ≡ true → length u ≤ length i
 count-below u i h b =
-    one-to-one (λ s t. prefix s t ≡ true) u i (rising-apart u h)
+    one-to-one (λ s t. prefix s t ≡ true) u i (rising-unshared u h)
     (λ s j. let c = covered-some s i (below-each u i b s j) in record { one = c .one; inside = c .inside; meets = c .passes })
 
 -- a rising list whose strings all stand in another list is no longer

@@ -8,7 +8,7 @@ use mathlib.Core.Option.{none}
 use Prim.Native.Nat.{ℕ, suc, _≤_}
 use native.Mathlib.Omega.{arith}
 use lib.Dec.{eqb, leb}
-use lib.ListN.{length, length-append, length-map}
+use lib.ListN.{length, length-map}
 use borrow.Author.Tests.{leb-true, eqb-false, le-leb}
 use Rattle.rules.specs.Strings.{Str, prefix, less, _▹_}
 use Rattle.rules.specs.Names.{Name, any, all, rising, covered, below}
@@ -18,11 +18,9 @@ use Rattle.laws.proofs.Prefix.{prefix-trans, prefix-grown, prefix-of-gr
 use Rattle.laws.proofs.Rising.{rising-head, rising-tail, rising-cons}
 use Rattle.laws.proofs.Below.{covered-some, some-covered, below-each, each-below}
 use Rattle.laws.proofs.Settle.{drop-grown, none-pair}
+use Rattle.laws.proofs.Shares.{grown-length}
 
 -- ---- one string
-
-pub grown-length : (s : Str) (d : Bool) → length (s ▹ d) ≡ suc (length s)
-grown-length s d = length-append s (d ∷ []) ∙ omega arith
 
 -- the last digit of a string, or the one given
 final : Bool → Str → Bool

@@ -12,19 +12,20 @@ use lib.Dec.{leb}
 use lib.ListN.{length}
 use borrow.Author.Tests.{leb-true, le-leb, ltb-false}
 use Rattle.rules.specs.Limits.{Limits}
-use Rattle.rules.specs.Strings.{Str, same, _▹_}
+use Rattle.rules.specs.Strings.{Str, same}
 use Rattle.rules.specs.Names.{Name, any, all, member, rising, isName, below, union}
-use Rattle.rules.specs.Stamps.{Stamp, pairAmong, pair, isNone, lawful, start, update, append, fork, settle, settled, reduce, unite, join, compare}
+use Rattle.rules.specs.Stamps.{Stamp, pairAmong, pair, isNone, lawful, start, update, append, fork, settled, reduce, unite, join, compare}
 use Rattle.rules.specs.Refusals.{long, many}
 use Rattle.rules.specs.declared.Verdict.the-variants.{Equal}
 use Rattle.laws.proofs.Tests.{no, and-left, and-right, and-both, In, in-append, all-each, each-all}
 use Rattle.laws.proofs.Prefix.{prefix-length}
 use Rattle.laws.proofs.Below.{covered-some, below-each, below-refl}
 use Rattle.laws.proofs.Union.{union-top, union-rising, below-union-left, union-mono}
-use Rattle.laws.proofs.Settle.{settle-in}
-use Rattle.laws.proofs.Proper.{Proper}
+use Rattle.laws.proofs.Steps.{Proper, settle-nonempty}
+use Rattle.laws.proofs.Reduce.{reduce-keeps, reduce-proper, reduce-normal}
+use Rattle.laws.proofs.Shares.{settle-short}
 use Rattle.laws.proofs.Counts.{count-below}
-use Rattle.laws.proofs.Fork.{grown-length, append-length, append-rising, below-append, append-no-pair, append-short}
+use Rattle.laws.proofs.Fork.{append-length, append-rising, below-append, append-no-pair, append-short}
 
 -- ---- what the tests say
 
@@ -179,11 +180,6 @@ unite-proper a b p q = record {
 union-short : (most : ℕ) (m n : Name) → Short most m → Short most n → Short most (union m n)
 union-short most m n f g s i = ⊎-elim (λ h. f s h) (λ h. g s h) (in-append s m n (union-top m n s i .inside))
 
--- s is shorter than s0
-settle-short : (most : ℕ) (s : Str) (n : Name) → In (s ▹ false) n → Short most n → Short most (settle s n)
-settle-short most s n h f x i =
-    ⊎-elim (λ k. f x (k .0)) (λ k. omega (arith, f (s ▹ false) h, grown-length s false, ap length (k .0))) (settle-in s n x i)
-
 -- a string in u, and none too long in i
 abbrev Sized : ℕ → Stamp → Type 0
 Sized most x = (1 ≤ length (x .update)) × Short most (x .id)
@@ -194,22 +190,17 @@ unite-sized most a b p q =
     let u = union (a .update) (b .update) in
     (filled-below (a .update) u (below-union-left (a .update) (b .update)) (p .0), union-short most (a .id) (b .id) (p .1) (q .1))
 
-module _
-    (reduce-keeps : (P : Stamp → Type 0) → ((s : Str) (x : Stamp) → Proper x → In (s ▹ false) (x .id) → In (s ▹ true) (x .id) → P x → P (settled s x)) → (x : Stamp) → Proper x → P x → P (reduce x))
-    (reduce-proper : (x : Stamp) → Proper x → Proper (reduce x))
-    (reduce-normal : (x : Stamp) → Proper x → pair (reduce x .id) ≡ none)
-    (settle-nonempty : (s : Str) (n : Name) → 1 ≤ length n → 1 ≤ length (settle s n)) where
-  reduce-sized : (most : ℕ) (x : Stamp) → Proper x → Sized most x → Sized most (reduce x)
-  unfolding settled
-  reduce-sized most =
-      reduce-keeps (Sized most) (λ s x p i j h. (settle-nonempty s (x .update) (h .0), settle-short most s (x .id) i (h .1)))
+reduce-sized : (most : ℕ) (x : Stamp) → Proper x → Sized most x → Sized most (reduce x)
+unfolding settled
+reduce-sized most =
+    reduce-keeps (Sized most) (λ s x p i j h. (settle-nonempty s (x .update) (h .0), settle-short most s (x .id) (h .1)))
 
-  pub lawful-join : (L : Limits) (a b : Stamp) → lawful L a ≡ true → lawful L b ≡ true → many L (join a b) ≡ false → lawful L (join a b) ≡ true
-  unfolding join many
-  lawful-join L a b e f h =
-      let p = lawful-parts L a e in
-      let q = lawful-parts L b f in
-      let u = unite-proper a b (lawful-proper L a e) (lawful-proper L b f) in
-      let z = reduce-sized (L .digits) (unite a b) u
-      (unite-sized (L .digits) a b (p .updateNamed .filled, p .idNamed .short) (q .updateNamed .filled, q .idNamed .short)) in
-      lawful-made L (join a b) (reduce-proper (unite a b) u) (z .0) (ltb-false (L .strings) (length (join a b .id)) h) (z .1) (reduce-normal (unite a b) u)
+pub lawful-join : (L : Limits) (a b : Stamp) → lawful L a ≡ true → lawful L b ≡ true → many L (join a b) ≡ false → lawful L (join a b) ≡ true
+unfolding join many
+lawful-join L a b e f h =
+    let p = lawful-parts L a e in
+    let q = lawful-parts L b f in
+    let u = unite-proper a b (lawful-proper L a e) (lawful-proper L b f) in
+    let z = reduce-sized (L .digits) (unite a b) u
+    (unite-sized (L .digits) a b (p .updateNamed .filled, p .idNamed .short) (q .updateNamed .filled, q .idNamed .short)) in
+    lawful-made L (join a b) (reduce-proper (unite a b) u) (z .0) (ltb-false (L .strings) (length (join a b .id)) h) (z .1) (reduce-normal (unite a b) u)

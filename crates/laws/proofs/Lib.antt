@@ -6,11 +6,10 @@ pub mod Bits
 pub mod Below
 pub mod Union
 pub mod Settle
-pub mod Counts
-pub mod Fork
-pub mod Proper
-pub mod Lawful
 pub mod Sums
 pub mod Steps
 pub mod Reduce
 pub mod Shares
+pub mod Counts
+pub mod Fork
+pub mod Lawful
