@@ -54,7 +54,8 @@ settle-short most s n h t i =
     let at : (d : Bool) → In (s ▹ d) n → length s ≤ most = λ d j. omega (arith, h (s ▹ d) j, grown-length s d) in
     ⊎-elim (λ l. h t (l .0)) (λ l. rw (l .0) (⊎-elim (at false) (at true) (l .1))) (settle-in s n t i)
 
-pub shares-reduce : (most : ℕ) (x : Stamp) → Proper x → ((t : Str) → In t (x .id) → length t ≤ most) → sumShares most (reduce x .id) ≡ sumShares most (x .id)
+pub shares-reduce : (most : ℕ) (x : Stamp) → Proper x → ((t : Str) → In t (x .id) → length t ≤ most)
+    → sumShares most (reduce x .id) ≡ sumShares most (x .id)
 unfolding settled
 shares-reduce most x ok h = reduce-keeps Same kept x ok (h, refl) .1
   where
@@ -96,6 +97,7 @@ module _ (m n : Name) (m-rising : rising m ≡ true) (n-rising : rising n ≡ tr
       omega (arith, total-exchange f (union m n) m (union-rising m n) m-rising, ap (total f) none, ap (total f) rest)
 
 -- a union adds up
-pub shares-union : (most : ℕ) (m n : Name) → rising m ≡ true → rising n ≡ true → Apart m n → sumShares most (union m n) ≡ sumShares most m + sumShares most n
+pub shares-union : (most : ℕ) (m n : Name) → rising m ≡ true → rising n ≡ true → Apart m n
+    → sumShares most (union m n) ≡ sumShares most m + sumShares most n
 shares-union most m n h k a =
     omega (arith, shares-total most (union m n), shares-total most m, shares-total most n, total-union m n h k a (share most))

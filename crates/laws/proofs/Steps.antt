@@ -11,7 +11,8 @@ use Rattle.rules.specs.Strings.{Str, prefix, same, less, _▹_}
 use Rattle.rules.specs.Names.{Name, all, rising, covered, below, insert}
 use Rattle.rules.specs.Stamps.{Stamp, settle, settled}
 use Rattle.laws.proofs.Tests.{clash, decide, not-true, In, Some}
-use Rattle.laws.proofs.Prefix.{prefix-refl, prefix-trans, prefix-antisym, prefix-grown, prefix-of-grown, prefix-goes-on, grown-not-prefix, same-is, not-same}
+use Rattle.laws.proofs.Prefix.{prefix-refl, prefix-trans, prefix-antisym, prefix-grown, prefix-of-grown, prefix-goes-on, grown-not-prefix}
+use Rattle.laws.proofs.Prefix.{same-is, not-same}
 use Rattle.laws.proofs.Rising.{rising-antichain, rising-unique, in-insert, insert-rising}
 use Rattle.laws.proofs.Below.{covered-some, some-covered, covered-below, below-each, below-by-covered, below-refl}
 use Rattle.laws.proofs.Settle.{Held, Other, Way, holds, lacks, way, settle-in, in-settle, drop-grown}
@@ -27,9 +28,6 @@ pub record Proper (x : Stamp) : Type 0 where
 
 grown-apart : (s : Str) (d : Bool) → s ≡ s ▹ d → ⊥
 grown-apart s d e = clash (subst (λ (x : Str). prefix x s ≡ true) e (prefix-refl s)) (grown-not-prefix s d)
-
-own-other : (s : Str) → Other s s
-own-other s = (grown-apart s false, grown-apart s true)
 
 grown-same : (s t : Str) (d e : Bool) → s ▹ d ≡ t ▹ e → s ≡ t
 grown-same s t d e p = sym (drop-grown s d) ∙ ap dropLast p ∙ drop-grown t e
@@ -113,8 +111,9 @@ module _ (s : Str) (n i : Name) (n-rising : rising n ≡ true) (i-rising : risin
     where
       under : prefix t s ≡ true → ⊥
       under p =
-          let on : (d : Bool) → In (s ▹ d) n → t ≡ s ▹ d = λ d j. rising-antichain n n-rising t (s ▹ d) k j (prefix-trans t s (s ▹ d) p (prefix-grown s d)) in
-          ⊎-elim (λ j. o .0 (on false j)) (λ j. o .1 (on true j)) h
+          let on : (d : Bool) → In (s ▹ d) n → ⊥ =
+          λ d j. other-at s t d o (rising-antichain n n-rising t (s ▹ d) k j (prefix-trans t s (s ▹ d) p (prefix-grown s d))) in
+          ⊎-elim (on false) (on true) h
 
       over : prefix s t ≡ true → ⊥
       over p =
@@ -217,27 +216,31 @@ pub data Steps : Stamp → Stamp → Type 0 where
   stop : {x : Stamp} → Steps x x
   step : {x y : Stamp} (s : Str) → In (s ▹ false) (x .id) → In (s ▹ true) (x .id) → Steps (settled s x) y → Steps x y
 
--- settling t takes no string that prolongs s, and brings none
+-- settling t takes no string that prolongs s
 grown-stays : (s t : Str) (n : Name) (d : Bool) → (s ≡ t → ⊥) → In (s ▹ d) n → In (s ▹ d) (settle t n)
 grown-stays s t n d h i = in-settle t n (s ▹ d) (inl (i, grown-other s t d h))
 
-grown-came : (s t : Str) (n : Name) (d : Bool) → Other s t → In (s ▹ d) (settle t n) → In (s ▹ d) n
-grown-came s t n d o i = ⊎-elim (λ l. l .0) (λ l. absurd (other-at s t d o (sym (l .0)))) (settle-in t n (s ▹ d) i)
+held-stays : (s t : Str) (n : Name) → (s ≡ t → ⊥) → Held s n → Held s (settle t n)
+held-stays s t n h k = ⊎-elim (λ i. inl (grown-stays s t n false h i)) (λ i. inr (grown-stays s t n true h i)) k
 
+-- and brings none, unless it is t
+held-came : (s t : Str) (n : Name) → Other s t → Held s (settle t n) → Held s n
+held-came s t n o k = ⊎-elim (λ i. inl (came false i)) (λ i. inr (came true i)) k
+  where
+    came : (d : Bool) → In (s ▹ d) (settle t n) → In (s ▹ d) n
+    came d i = ⊎-elim (λ l. l .0) (λ l. absurd (other-at s t d o (sym (l .0)))) (settle-in t n (s ▹ d) i)
+
+-- settling t and then s leaves what settling s and then t leaves
 swap-in : (s t : Str) (n : Name) → (s ≡ t → ⊥) → Other s t → Other t s → (r : Str) → In r (settle s (settle t n)) → In r (settle t (settle s n))
 swap-in s t n h o q r i = ⊎-elim stayed new (settle-in s (settle t n) r i)
   where
     stayed : In r (settle t n) × Other s r → In r (settle t (settle s n))
     stayed l =
         in-settle t (settle s n) r
-        (⊎-elim (λ k. inl (in-settle s n r (inl (k .0, l .1)), k .1))
-        (λ k. inr (k .0, ⊎-elim (λ j. inl (grown-stays t s n false (λ e. h (sym e)) j)) (λ j. inr (grown-stays t s n true (λ e. h (sym e)) j)) (k .1)))
-        (settle-in t n r (l .0)))
+        (⊎-elim (λ k. inl (in-settle s n r (inl (k .0, l .1)), k .1)) (λ k. inr (k .0, held-stays t s n (λ e. h (sym e)) (k .1))) (settle-in t n r (l .0)))
 
     new : (r ≡ s) × Held s (settle t n) → In r (settle t (settle s n))
-    new l =
-        let k : Held s n = ⊎-elim (λ j. inl (grown-came s t n false o j)) (λ j. inr (grown-came s t n true o j)) (l .1) in
-        in-settle t (settle s n) r (inl (in-settle s n r (inr (l .0, k)), rw (l .0) q))
+    new l = in-settle t (settle s n) r (inl (in-settle s n r (inr (l .0, held-came s t n o (l .1))), rw (l .0) q))
 
 -- the step s is there still after another step t
 pub step-stays : (s t : Str) (x : Stamp) (d : Bool) → (s ≡ t → ⊥) → In (s ▹ d) (x .id) → In (s ▹ d) (settled t x .id)
@@ -254,8 +257,8 @@ module _ (s t : Str) (x : Stamp) (ok : Proper x) (s-zero : In (s ▹ false) (x .
   both-proper = settled-proper s (settled t x) (settled-proper t x ok t-zero t-one) (step-stays s t x false h s-zero) (step-stays s t x true h s-one)
 
 -- two different steps commute
-pub steps-commute : (s t : Str) (x : Stamp) → Proper x → In (s ▹ false) (x .id) → In (s ▹ true) (x .id) → In (t ▹ false) (x .id) → In (t ▹ true) (x .id) → (s ≡ t → ⊥)
-    → settled s (settled t x) ≡ settled t (settled s x)
+pub steps-commute : (s t : Str) (x : Stamp) → Proper x → In (s ▹ false) (x .id) → In (s ▹ true) (x .id) → In (t ▹ false) (x .id) → In (t ▹ true) (x .id)
+    → (s ≡ t → ⊥) → settled s (settled t x) ≡ settled t (settled s x)
 unfolding settled
 steps-commute s t x ok a b c d h = λ i. record { update = one (x .update) p.updateRising q.updateRising i; id = one (x .id) p.idRising q.idRising i }
   where

@@ -59,11 +59,12 @@ shared-in m n s i =
     in-keep (λ x. member x m) n s (member-in s n (h .1)) (in-member s m (h .0))
 
 -- m and n differ by what each holds beyond the other
-pub total-exchange : (f : Str → ℕ) (m n : Name) → rising m ≡ true → rising n ≡ true → total f m + total f (beyond n m) ≡ total f n + total f (beyond m n)
+pub total-exchange : (f : Str → ℕ) (m n : Name) → rising m ≡ true → rising n ≡ true
+    → total f m + total f (beyond n m) ≡ total f n + total f (beyond m n)
 total-exchange f m n h k =
-    let e : total f (shared m n) ≡ total f (shared n m) =
-    ap (total f) (rising-unique (shared m n) (shared n m) (keep-rising (λ s. member s n) m h) (keep-rising (λ s. member s m) n k) (shared-in m n) (shared-in n m)) in
-    omega (arith, total-keep f (λ s. member s n) m, total-keep f (λ s. member s m) n)
+    let e : shared m n ≡ shared n m =
+    rising-unique (shared m n) (shared n m) (keep-rising (λ s. member s n) m h) (keep-rising (λ s. member s m) n k) (shared-in m n) (shared-in n m) in
+    omega (arith, ap (total f) e, total-keep f (λ s. member s n) m, total-keep f (λ s. member s m) n)
 
 -- the strings of m beyond n, told one by one
 pub beyond-is : (m n l : Name) → rising m ≡ true → rising l ≡ true
