@@ -45,6 +45,10 @@ pub record Among (S : List ℕ) (P : ℕ → Type 0) : Type 0 where
   pub inside : In slot S
   pub holds : P slot
 
+-- and what passes one test there passes another
+pub among : {S : List ℕ} {P Q : ℕ → Type 0} → ((b : ℕ) → In b S → P b → Q b) → Among S P → Among S Q
+among f a = record { slot = a .slot; inside = a .inside; holds = f (a .slot) (a .inside) (a .holds) }
+
 -- some copy of S has seen event e
 abbrev pub Seen : Config → List ℕ → ℕ → Type 0
 Seen C S e = Among S (λ b. In e (C .events b))
@@ -125,8 +129,7 @@ module _ (C D : Config) (old : ℕ → List ℕ) (m : Reads C D old) (q : Sound 
   pub covered-back : (x : ℕ) (r : Str) → D .present x ≡ true → covered r (D .stamp x .update) ≡ true → Covers C (old x) r
   covered-back x r p e =
       let t = covered-some r (D .stamp x .update) e in
-      let a = m .updateBack x (t .one) p (t .inside) in
-      record { slot = a .slot; inside = a .inside; holds = some-covered r (C .stamp (a .slot) .update) (t .one) (a .holds) (t .passes) }
+      among (λ y i h. some-covered r (C .stamp y .update) (t .one) h (t .passes)) (m .updateBack x (t .one) p (t .inside))
 
   pub covered-on : (x y : ℕ) (r : Str) → D .present x ≡ true → In y (old x) → covered r (C .stamp y .update) ≡ true → covered r (D .stamp x .update) ≡ true
   covered-on x y r p i e =
@@ -189,8 +192,7 @@ module _ (C D : Config) (old : ℕ → List ℕ) (m : Reads C D old) (q : Sound 
       seen-on S g e
       (q .shown (a .slot) (gather old S) (m .slots x (a .slot) p (a .inside)) (all-back S g) (some-back S g h)
       (λ r j. let t = covered-some r (D .stamp x .update) (m .updateOn x (a .slot) r p (a .inside) j) in
-      let c = covers-back S g (t .one) (u (t .one) (t .inside)) in
-      record { slot = c .slot; inside = c .inside; holds = covered-down r (t .one) (C .stamp (c .slot) .update) (t .passes) (c .holds) }) e (a .holds))
+      among (λ b k c. covered-down r (t .one) (C .stamp b .update) (t .passes) c) (covers-back S g (t .one) (u (t .one) (t .inside)))) e (a .holds))
 
 -- ---- each slot of D holds what one slot of C held
 

@@ -26,7 +26,12 @@ joined a b C = record {
 module _ (C : Config) (q : Sound C) (a b : ℕ) (pa : C .present a ≡ true) (pb : C .present b ≡ true) (n : a ≡ b → ⊥) where
   -- the configuration on the way, with x in slot a
   abbrev with-stamp : Stamp → Config
-  with-stamp x = record { present = put b false (C .present); stamp = put a x (C .stamp); events = put a (C .events a ++ C .events b) (C .events); next = C .next }
+  with-stamp x = record {
+    present = put b false (C .present);
+    stamp = put a x (C .stamp);
+    events = put a (C .events a ++ C .events b) (C .events);
+    next = C .next;
+  }
 
   same-slot : eqb a a ≡ true
   same-slot = eq-eqb a a refl

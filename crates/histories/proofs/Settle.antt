@@ -7,7 +7,7 @@ use mathlib.Core.Logic.{inr, ⊎-elim}
 use Prim.Native.Nat.{ℕ, _≤_}
 use lib.ListN.{length}
 use Rattle.rules.specs.Strings.{Str, prefix, _▹_}
-use Rattle.rules.specs.Names.{covered}
+use Rattle.rules.specs.Names.{rising, covered}
 use Rattle.rules.specs.Stamps.{settle, settled}
 use Rattle.laws.proofs.Tests.{clash, decide, In}
 use Rattle.laws.proofs.Prefix.{prefix-grown, prefix-goes-on, grown-not-prefix}
@@ -15,7 +15,7 @@ use Rattle.laws.proofs.Rising.{rising-antichain}
 use Rattle.laws.proofs.Below.{covered-some, some-covered, in-covered, covered-down, covered-below}
 use Rattle.laws.proofs.Settle.{Other, Way, holds, lacks, way, settle-in, in-settle}
 use Rattle.laws.proofs.Steps.{Proper, settle-covered, covered-settle, covered-settle-update, settled-proper}
-use Rattle.histories.proofs.Config.{Config, put, Where, here, there, is-where, Covers, AllPresent, Within, Under, Sound}
+use Rattle.histories.proofs.Config.{Config, put, Where, here, there, is-where, among, Covers, AllPresent, Within, Under, Sound}
 
 -- one step of reduction in slot c
 abbrev pub settledAt : ℕ → Str → Config → Config
@@ -32,9 +32,9 @@ module _ (C : Config) (q : Sound C) (c : ℕ) (pc : C .present c ≡ true) (s : 
       let t = covered-some s (C .stamp y .id) h in
       let on : (d : Bool) → In (s ▹ d) (C .stamp c .id) → prefix (s ▹ d) (t .one) ≡ true → ⊥ =
       λ d i p. n (sym (q .apart c y (s ▹ d) (t .one) pc py i (t .inside) p .0)) in
-      ⊎-elim (λ e. n (q .apart y c (t .one) (s ▹ false) py pc (t .inside) zero-in (subst (λ (x : Str). prefix x (s ▹ false) ≡ true) e (prefix-grown s false)) .0))
-      (λ h. ⊎-elim (on false zero-in) (on true one-in) h)
-      (prefix-goes-on s (t .one) (t .passes))
+      let alike : s ≡ t .one → ⊥ =
+      λ e. n (q .apart y c s (s ▹ false) py pc (subst (λ (x : Str). In x (C .stamp y .id)) (sym e) (t .inside)) zero-in (prefix-grown s false) .0) in
+      ⊎-elim alike (λ k. ⊎-elim (on false zero-in) (on true one-in) k) (prefix-goes-on s (t .one) (t .passes))
 
   -- so none covers s0 or s1
   other-covered : (y : ℕ) (r : Str) → C .present y ≡ true → (y ≡ c → ⊥) → covered r (C .stamp y .id) ≡ true → Other s r
@@ -110,14 +110,17 @@ module _ (C : Config) (q : Sound C) (c : ℕ) (pc : C .present c ≡ true) (s : 
       let u = covered-some r (C .stamp c .id) e in
       n (q .apart x c r (u .one) px pc i (u .inside) (u .passes) .0)
 
+  settled-id-rising : rising (settle s (C .stamp c .id)) ≡ true
+  unfolding settled
+  settled-id-rising = settled-proper s (C .stamp c) (q .proper c pc) zero-in one-in .idRising
+
   apart-after : (x y : ℕ) (r t : Str) → C .present x ≡ true → C .present y ≡ true → In r (D .stamp x .id) → In t (D .stamp y .id)
       → prefix r t ≡ true → (x ≡ y) × (r ≡ t)
   unfolding settled
   apart-after x y r t px py i j h = by (is-where c x) (is-where c y)
     where
       by : Where c x → Where c y → (x ≡ y) × (r ≡ t)
-      by (here p e) (here o f) =
-          (p ∙ sym o, rising-antichain (settle s (C .stamp c .id)) (settled-proper s (C .stamp c) (q .proper c pc) zero-in one-in .idRising) r t (rw e at i) (rw f at j) h)
+      by (here p e) (here o f) = (p ∙ sym o, rising-antichain (settle s (C .stamp c .id)) settled-id-rising r t (rw e at i) (rw f at j) h)
       by (there n e) (there m f) = q .apart x y r t px py (rw e at i) (rw f at j) h
       by (here p e) (there m f) = absurd (from-c y r t py m (rw e at i) (rw f at j) h)
       by (there n e) (here o f) = absurd (to-c x r t px n (rw e at i) (rw f at j) h)
@@ -145,19 +148,13 @@ module _ (C : Config) (q : Sound C) (c : ℕ) (pc : C .present c ≡ true) (s : 
     known-after w r i =
         let h = in-covered r (D .stamp x .update) i in
         let t = covered-some r (C .stamp x .update) (back x r h) in
-        let b = q .known x S px g some w (t .one) (t .inside) in
-        record {
-          slot = b .slot;
-          inside = b .inside;
-          holds = still (b .slot) r (others x r px h) (covered-down r (t .one) (C .stamp (b .slot) .update) (t .passes) (b .holds));
-        }
+        among (λ b j k. still b r (others x r px h) (covered-down r (t .one) (C .stamp b .update) (t .passes) k)) (q .known x S px g some w (t .one) (t .inside))
 
     -- a string that is covered still is asked as before
     kept : Under D x S → (r : Str) → covered r (D .stamp x .update) ≡ true → Covers C S r
     kept u r h =
         let t = covered-some r (D .stamp x .update) h in
-        let b = u (t .one) (t .inside) in
-        record { slot = b .slot; inside = b .inside; holds = back (b .slot) r (covered-down r (t .one) (D .stamp (b .slot) .update) (t .passes) (b .holds)) }
+        among (λ b j k. back b r (covered-down r (t .one) (D .stamp b .update) (t .passes) k)) (u (t .one) (t .inside))
 
     -- one that is not was s0 or s1 in c: there s is asked for it, and only c covers s
     lost : Under D x S → (r : Str) → In r (C .stamp x .update) → covered r (D .stamp x .update) ≡ false → Covers C S r
@@ -175,8 +172,7 @@ module _ (C : Config) (q : Sound C) (c : ℕ) (pc : C .present c ≡ true) (s : 
         by (there n f) w = absurd (clash still-here (rw f at h))
         by (here p f) (lacks k e) = absurd (clash (rw p at still-here) (rw (f, e) at h))
         by (here p f) (holds k e) =
-            let b = u s (rw f (in-settle s (C .stamp c .update) s (inr (refl, k)))) in
-            record { slot = b .slot; inside = b .inside; holds = at p (b .slot) (g (b .slot) (b .inside)) (b .holds) (is-where c (b .slot)) }
+            among (λ y j l. at p y (g y j) l (is-where c y)) (u s (rw f (in-settle s (C .stamp c .update) s (inr (refl, k)))))
 
     shown-after : Under D x S → Within D x S
     shown-after u = q .shown x S px g some (λ r i. ⊎-elim (kept u r) (lost u r i) (decide (covered r (D .stamp x .update))))

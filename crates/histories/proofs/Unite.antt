@@ -94,7 +94,8 @@ module _ (C : Config) (q : Sound C) (a b : ℕ) (pa : C .present a ≡ true) (pb
       by : Place x → covered r (D .stamp x .update) ≡ true
       by (both e c) =
           rw (c, covered-union r m n)
-          (⊎-elim (λ h. or-left (covered r n) (in-covered r m (rw h at j))) (λ h. or-right (covered r m) (in-covered r n (rw h at j))) (in-two a b y (rw c at i)))
+          (⊎-elim (λ h. or-left (covered r n) (in-covered r m (rw h at j))) (λ h. or-right (covered r m) (in-covered r n (rw h at j)))
+          (in-two a b y (rw c at i)))
       by (other o c k) = rw c (in-covered r (C .stamp x .update) (rw (in-one x y (rw c at i)) at j))
 
   events-back : (x e : ℕ) → D .present x ≡ true → In e (D .events x) → Among (old x) (λ y. In e (C .events y))

@@ -13,7 +13,7 @@ use Rattle.rules.specs.Stamps.{update}
 use Rattle.laws.proofs.Tests.{In}
 use Rattle.laws.proofs.Below.{covered-some, in-covered, covered-below, below-each, below-refl}
 use Rattle.laws.proofs.Steps.{Proper}
-use Rattle.histories.proofs.Config.{Config, put, Where, here, there, is-where, Seen, Covers, AllPresent, Within, Under, Sound}
+use Rattle.histories.proofs.Config.{Config, put, Where, here, there, is-where, among, Seen, Covers, AllPresent, Within, Under, Sound}
 
 -- slot a after an update, with the next event
 abbrev pub updated : ℕ → Config → Config
@@ -130,19 +130,16 @@ module _ (C : Config) (q : Sound C) (a : ℕ) (pa : C .present a ≡ true) where
       by (there n c) = let l = q .fresh x e px (rw c at i) in omega arith
 
   module _ (x : ℕ) (S : List ℕ) (px : C .present x ≡ true) (g : AllPresent C S) (some : 1 ≤ length S) where
-    -- another copy: nothing of what was before has changed
     known-after : Within D x S → Under D x S
     unfolding update
     known-after w r i = by (is-where a x)
       where
         by : Where a x → Covers D S r
         by (here p c) =
-            let b = w (C .next) (rw c (inl refl)) in
-            record { slot = b .slot; inside = b .inside; holds = a-covers (b .slot) r (newest (b .slot) (g (b .slot) (b .inside)) (b .holds)) (rw c at i) }
+            among (λ b j h. a-covers b r (newest b (g b j) h) (rw c at i)) (w (C .next) (rw c (inl refl)))
         by (there n c) =
-            let old : Within C x S = λ e j. let b = w e (more x e j) in record { slot = b .slot; inside = b .inside; holds = less x (b .slot) e px j (b .holds) } in
-            let b = q .known x S px g some old r (rw c at i) in
-            record { slot = b .slot; inside = b .inside; holds = wider (b .slot) r (b .holds) }
+            let old : Within C x S = λ e j. among (λ b k h. less x b e px j h) (w e (more x e j)) in
+            among (λ b k h. wider b r h) (q .known x S px g some old r (rw c at i))
 
     shown-after : Under D x S → Within D x S
     unfolding update
@@ -152,13 +149,10 @@ module _ (C : Config) (q : Sound C) (a : ℕ) (pa : C .present a ≡ true) where
         by (here p c) =
             let s = q .nonempty a pa in
             let t = covered-some (s .0) (C .stamp a .id) (below-each (C .stamp a .update) (C .stamp a .id) (q .proper a pa .belowId) (s .0) (s .1)) in
-            let b = u (t .one) (rw c (t .inside)) in
-            let k : b .slot ≡ a = own-update (b .slot) (t .one) (g (b .slot) (b .inside)) (t .inside) (b .holds) in
-            record { slot = b .slot; inside = b .inside; holds = subst (λ (z : ℕ). In e (D .events z)) (p ∙ sym k) i }
+            among (λ b k h. subst (λ (z : ℕ). In e (D .events z)) (p ∙ sym (own-update b (t .one) (g b k) (t .inside) h)) i) (u (t .one) (rw c (t .inside)))
         by (there n c) =
-            let old : Under C x S = λ r j. let b = u r (rw c j) in record { slot = b .slot; inside = b .inside; holds = narrower x (b .slot) r px j (b .holds) } in
-            let b = q .shown x S px g some old e (rw c at i) in
-            record { slot = b .slot; inside = b .inside; holds = more (b .slot) e (b .holds) }
+            let old : Under C x S = λ r j. among (λ b k h. narrower x b r px j h) (u r (rw c j)) in
+            among (λ b k h. more b e h) (q .shown x S px g some old e (rw c at i))
 
   pub update-sound : Sound (updated a C)
   update-sound = record {
