@@ -1,1 +1,1 @@
-// No code: that every history keeps verdicts, ids and shares right is what this crate is for.
+// No code: what every history of calls keeps stands in proofs/.
