@@ -6,3 +6,4 @@ pub mod Bits
 pub mod Below
 pub mod Union
 pub mod Settle
+pub mod Words

@@ -1,0 +1,287 @@
+-- Words that hold strings: the leading zeros of an exclusive-or are the leading digits shared, words stand in the order of their strings,
+-- and a word tells its string. What is said of any width goes from the highest digit down, by induction. Assumes nothing.
+use mathlib.Core.Path.{_≡_, refl, sym, ap, ap₂, _∙_}
+use mathlib.Core.Bool.{Bool, true, false, cond, _&&_, Bool·beq}
+use mathlib.Core.List.{List, [], _∷_, _++_}
+use Prim.Native.Nat.{ℕ, zero, suc, _+_, _*_, _-_, _/_, _%_, _^_, _≤_, _<_}
+use native.Mathlib.Nat.{mod-lt, pow-suc, le-of-suc-le-suc, not-suc-le-zero, div-lt-iff-lt-mul, mod-eq-of-lt}
+use native.Mathlib.Nat.{mul-assoc, mul-comm, add-mul, mul-le-mul-right, mul-mod-left, le-mul-of-pos-right}
+use native.Mathlib.Omega.{arith}
+use borrow.Author.Tests.{ltb-true, ltb-false, lt-ltb, le-ltb, leb-true, eqb-true, eq-eqb}
+use lib.Bits.{bitXor, xor-block, xor-lt}
+use lib.Count.{leadingZeros, leading-length, leading-unique}
+use lib.Dec.{eqb, leb, ltb, leb·zero, leb·suc-zero, leb·suc-suc}
+use lib.ListN.{length, take, replicate, length-append, length-replicate}
+use lib.Pow.{split, pow-pos, pow-add, pow-mono, shr-shr, shl-shr, high, low, mod-pow-add}
+use lib.Seq.{take-at, length-take-le}
+use Rattle.rules.specs.Strings.{Str, prefix, less, common, _▹_, digit, field, value, aligned, wordOf, strOf, isWord}
+use Rattle.laws.proofs.Tests.{no, clash, not-true, iff}
+use Rattle.laws.proofs.Rising.{less-apart}
+use Rattle.laws.proofs.Bits.{field-length, value-lt, value-snoc, value-append, value-shift, value-field, field-value, value-zeros}
+
+-- ---- fields
+
+-- higher bits make no difference
+pub field-low : (k a : ℕ) → field k (a % 2 ^ k) ≡ field k a
+field-low k a = ap₂ (λ (n v : ℕ). field n v) (sym (field-length k a)) (sym (value-field k a)) ∙ field-value (field k a)
+
+top-lt : (k a : ℕ) → a < 2 ^ suc k → a / 2 ^ k < 2
+top-lt k a h = div-lt-iff-lt-mul (pow-pos k) .1 (omega (arith, pow-suc 2 k))
+
+-- the highest digit, and the field of the rest
+field-parts : (k a : ℕ) → a < 2 ^ suc k → field (suc k) a ≡ eqb (a / 2 ^ k) 1 ∷ field k (a % 2 ^ k)
+unfolding field
+field-parts k a h =
+    ap₂ (λ (n : ℕ) (l : List Bool). eqb n 1 ∷ l) (mod-eq-of-lt (top-lt k a h)) (sym (field-low k a))
+
+pub field-split : (j k a : ℕ) → field (j + k) a ≡ field j (a / 2 ^ k) ++ field k a
+unfolding field
+field-split zero k a = ap (λ (n : ℕ). field n a) (let e : 0 + k ≡ k = omega arith in e)
+field-split (suc j) k a =
+    ap (λ (n : ℕ). field n a) (let e : suc j + k ≡ suc (j + k) = omega arith in e)
+    ∙ ap₂ (λ (n : ℕ) (l : List Bool). eqb (n % 2) 1 ∷ l)
+    (ap (λ (n : ℕ). a / 2 ^ n) (let e : j + k ≡ k + j = omega arith in e) ∙ sym (shr-shr a k j)) (field-split j k a)
+
+-- the first n digits of a field are the field of what stands above the rest
+pub field-top : (n k a : ℕ) → take n (field (n + k) a) ≡ field n (a / 2 ^ k)
+field-top n k a = ap (take n) (field-split n k a) ∙ take-at (field n (a / 2 ^ k)) (field k a) n (field-length n (a / 2 ^ k))
+
+-- ---- leading digits shared
+
+-- a highest digit that is 0 is one leading zero more
+zeros-low : (k v : ℕ) → v < 2 ^ k → leadingZeros (suc k) (0 * 2 ^ k + v) ≡ suc (leadingZeros k v)
+zeros-low k v h =
+    let s = leading-length k v h in
+    let e : 0 * 2 ^ k + v ≡ v = omega arith in
+    rw e (sym (leading-unique (suc k) v (suc (leadingZeros k v)) (s .0) (omega (arith, s .1)) (s .2) (s .3)))
+
+-- a highest digit that is 1 leaves none
+zeros-high : (k v : ℕ) → v < 2 ^ k → leadingZeros (suc k) (1 * 2 ^ k + v) ≡ zero
+zeros-high k v h =
+    sym (leading-unique (suc k) (1 * 2 ^ k + v) zero (suc k) (omega arith) (omega (arith, pow-suc 2 k)) (omega (arith, pow-suc 2 k)))
+
+lead-step : (k x r y s : ℕ) → x < 2 → y < 2 → r < 2 ^ k → s < 2 ^ k
+    → leadingZeros (suc k) (bitXor (x * 2 ^ k + r) (y * 2 ^ k + s)) ≡ cond (Bool·beq (eqb x 1) (eqb y 1)) (suc (leadingZeros k (bitXor r s))) zero
+lead-step k zero r zero s hx hy hr hs =
+    ap (leadingZeros (suc k)) (xor-block k 0 0 r s hr hs) ∙ zeros-low k (bitXor r s) (xor-lt k r s hr hs)
+lead-step k zero r (suc zero) s hx hy hr hs =
+    ap (leadingZeros (suc k)) (xor-block k 0 1 r s hr hs) ∙ zeros-high k (bitXor r s) (xor-lt k r s hr hs)
+lead-step k (suc zero) r zero s hx hy hr hs =
+    ap (leadingZeros (suc k)) (xor-block k 1 0 r s hr hs) ∙ zeros-high k (bitXor r s) (xor-lt k r s hr hs)
+lead-step k (suc zero) r (suc zero) s hx hy hr hs =
+    ap (leadingZeros (suc k)) (xor-block k 1 1 r s hr hs) ∙ zeros-low k (bitXor r s) (xor-lt k r s hr hs)
+lead-step k zero r (suc (suc y)) s hx hy hr hs = absurd (omega arith)
+lead-step k (suc zero) r (suc (suc y)) s hx hy hr hs = absurd (omega arith)
+lead-step k (suc (suc x)) r y s hx hy hr hs = absurd (omega arith)
+
+-- the leading zeros of an exclusive-or are the leading digits shared, at every width
+pub lead : (k a b : ℕ) → a < 2 ^ k → b < 2 ^ k → leadingZeros k (bitXor a b) ≡ common (field k a) (field k b)
+unfolding leadingZeros common field
+lead zero a b ha hb = refl
+lead (suc k) a b ha hb =
+    ap₂ (λ (x y : ℕ). leadingZeros (suc k) (bitXor x y)) (sym (split a k)) (sym (split b k))
+    ∙ lead-step k (a / 2 ^ k) (a % 2 ^ k) (b / 2 ^ k) (b % 2 ^ k) (top-lt k a ha) (top-lt k b hb) (mod-lt a (pow-pos k)) (mod-lt b (pow-pos k))
+    ∙ ap (λ (n : ℕ). cond (Bool·beq (eqb (a / 2 ^ k) 1) (eqb (b / 2 ^ k) 1)) (suc n) zero)
+    (lead k (a % 2 ^ k) (b % 2 ^ k) (mod-lt a (pow-pos k)) (mod-lt b (pow-pos k)))
+    ∙ sym (ap₂ common (field-parts k a ha) (field-parts k b hb))
+
+-- ---- prefix
+
+and-none : (e : Bool) → (e && false) ≡ false
+and-none true = refl
+and-none false = refl
+
+-- a first part is a prefix of a first part exactly when it is no longer than that, nor than what the two share
+pub prefix-take : (m n : ℕ) (s t : Str) → m ≤ length s → n ≤ length t → prefix (take m s) (take n t) ≡ (leb m n && leb m (common s t))
+unfolding prefix common
+prefix-take zero n s t hm hn = simp leb·zero
+prefix-take (suc m) n [] t hm hn = absurd (not-suc-le-zero hm)
+prefix-take (suc m) zero (a ∷ s) t hm hn = simp leb·suc-zero
+prefix-take (suc m) (suc n) (a ∷ s) [] hm hn = absurd (not-suc-le-zero hn)
+prefix-take (suc m) (suc n) (a ∷ s) (b ∷ t) hm hn =
+    step (Bool·beq a b) (prefix-take m n s t (le-of-suc-le-suc hm) (le-of-suc-le-suc hn))
+  where
+    step : (e : Bool) → prefix (take m s) (take n t) ≡ (leb m n && leb m (common s t))
+        → (e && prefix (take m s) (take n t)) ≡ (leb (suc m) (suc n) && leb (suc m) (cond e (suc (common s t)) zero))
+    step true ih = simp leb·suc-suc ih
+    step false ih = simp (leb·suc-zero, and-none)
+
+-- the same for what a caller has in hand: z is what the two words share
+pub prefix-words : (a b z : ℕ) → z ≡ common (field 64 a) (field 64 b) → (leb (a % 64) (b % 64) && leb (a % 64) z) ≡ prefix (strOf a) (strOf b)
+unfolding strOf
+prefix-words a b z e =
+    rw e (sym (prefix-take (a % 64) (b % 64) (field 64 a) (field 64 b) (omega (arith, field-length 64 a)) (omega (arith, field-length 64 b))))
+
+-- ---- order
+
+-- a test that goes the way of another
+ltb-as : (a b r s : ℕ) → (r < s → a < b) → (s ≤ r → b ≤ a) → ltb r s ≡ ltb a b
+ltb-as a b r s f g = by (ltb r s) refl
+  where
+    by : (y : Bool) → ltb r s ≡ y → ltb r s ≡ ltb a b
+    by true e = e ∙ sym (lt-ltb a b (f (ltb-true r s e)))
+    by false e = e ∙ sym (le-ltb a b (g (ltb-false r s e)))
+
+less-step : (k x r y s : ℕ) → x < 2 → y < 2 → r < 2 ^ k → s < 2 ^ k → less (field k r) (field k s) ≡ ltb r s
+    → less (eqb x 1 ∷ field k r) (eqb y 1 ∷ field k s) ≡ ltb (x * 2 ^ k + r) (y * 2 ^ k + s)
+unfolding less
+less-step k zero r zero s hx hy hr hs ih = ih ∙ ltb-as (0 * 2 ^ k + r) (0 * 2 ^ k + s) r s (λ h. omega arith) (λ h. omega arith)
+less-step k (suc zero) r (suc zero) s hx hy hr hs ih = ih ∙ ltb-as (1 * 2 ^ k + r) (1 * 2 ^ k + s) r s (λ h. omega arith) (λ h. omega arith)
+less-step k zero r (suc zero) s hx hy hr hs ih = sym (lt-ltb (0 * 2 ^ k + r) (1 * 2 ^ k + s) (omega arith))
+less-step k (suc zero) r zero s hx hy hr hs ih = sym (le-ltb (1 * 2 ^ k + r) (0 * 2 ^ k + s) (omega arith))
+less-step k zero r (suc (suc y)) s hx hy hr hs ih = absurd (omega arith)
+less-step k (suc zero) r (suc (suc y)) s hx hy hr hs ih = absurd (omega arith)
+less-step k (suc (suc x)) r y s hx hy hr hs ih = absurd (omega arith)
+
+-- the order of numbers is the order of their digits, at every width
+pub less-field : (k a b : ℕ) → a < 2 ^ k → b < 2 ^ k → less (field k a) (field k b) ≡ ltb a b
+unfolding less field
+less-field zero a b ha hb = sym (le-ltb a b (omega arith))
+less-field (suc k) a b ha hb =
+    ap₂ less (field-parts k a ha) (field-parts k b hb)
+    ∙ less-step k (a / 2 ^ k) (a % 2 ^ k) (b / 2 ^ k) (b % 2 ^ k) (top-lt k a ha) (top-lt k b hb) (mod-lt a (pow-pos k)) (mod-lt b (pow-pos k))
+    (less-field k (a % 2 ^ k) (b % 2 ^ k) (mod-lt a (pow-pos k)) (mod-lt b (pow-pos k)))
+    ∙ ap₂ ltb (split a k) (split b k)
+
+-- first parts of which neither is a prefix of the other stand as the wholes do
+less-take : (m n : ℕ) (s t : Str) → prefix (take m s) (take n t) ≡ false → prefix (take n t) (take m s) ≡ false
+    → less (take m s) (take n t) ≡ less s t
+unfolding less prefix
+less-take zero n s t p q = absurd (no (sym p))
+less-take (suc m) n [] t p q = absurd (no (sym p))
+less-take (suc m) zero (a ∷ s) t p q = absurd (no (sym q))
+less-take (suc m) (suc n) (a ∷ s) [] p q = absurd (no (sym q))
+less-take (suc m) (suc n) (true ∷ s) (true ∷ t) p q = less-take m n s t p q
+less-take (suc m) (suc n) (false ∷ s) (false ∷ t) p q = less-take m n s t p q
+less-take (suc m) (suc n) (true ∷ s) (false ∷ t) p q = refl
+less-take (suc m) (suc n) (false ∷ s) (true ∷ t) p q = refl
+
+-- strings of which neither is a prefix of the other stand as their words do
+pub less-words : (a b : ℕ) → a < 2 ^ 64 → b < 2 ^ 64 → prefix (strOf a) (strOf b) ≡ false → prefix (strOf b) (strOf a) ≡ false
+    → less (strOf a) (strOf b) ≡ ltb a b
+unfolding strOf
+less-words a b ha hb p q = less-take (a % 64) (b % 64) (field 64 a) (field 64 b) p q ∙ less-field 64 a b ha hb
+
+-- no digit differs where one is a prefix of the other
+pub prefix-not-less : (s t : Str) → prefix s t ≡ true → less s t ≡ false
+prefix-not-less s t p = not-true (λ h. clash p (less-apart s t h .0))
+
+pub extends-not-less : (s t : Str) → prefix t s ≡ true → less s t ≡ false
+extends-not-less s t p = not-true (λ h. clash p (less-apart s t h .1))
+
+-- ---- a word and its string
+
+pub str-length : (w : ℕ) → length (strOf w) ≡ w % 64
+unfolding strOf
+str-length w = length-take-le (w % 64) (field 64 w) (omega (arith, field-length 64 w))
+
+-- the word of s: its number moved to the top, and its length
+pub word-value : (s : Str) → wordOf s ≡ value s * 2 ^ (64 - length s) + length s
+unfolding wordOf aligned
+word-value s =
+    ap (λ (n : ℕ). n + length s)
+    (value-append 0 s (replicate (64 - length s) false)
+    ∙ value-shift (value s) (replicate (64 - length s) false)
+    ∙ ap₂ (λ (m n : ℕ). value s * 2 ^ m + n) (length-replicate (64 - length s) false) (value-zeros (64 - length s))
+    ∙ omega arith)
+
+-- a string's digits leave the six low bits free
+room : (n : ℕ) → n ≤ 58 → 64 ≤ 2 ^ (64 - n)
+room n h = pow-mono {i = 6} {j = 64 - n} (omega arith)
+
+whole-word : (n : ℕ) → n ≤ 64 → 2 ^ n * 2 ^ (64 - n) ≡ 2 ^ 64
+whole-word n h = sym (pow-add 2 n (64 - n)) ∙ ap (λ (k : ℕ). 2 ^ k) (let e : n + (64 - n) ≡ 64 = omega arith in e)
+
+-- n digits moved to the top leave room for what is below their place
+moved-lt : (v n : ℕ) → v < 2 ^ n → n ≤ 64 → v * 2 ^ (64 - n) + 2 ^ (64 - n) ≤ 2 ^ 64
+moved-lt v n hv hn =
+    let m : (v + 1) * 2 ^ (64 - n) ≤ 2 ^ n * 2 ^ (64 - n) = mul-le-mul-right (2 ^ (64 - n)) (omega arith) in
+    omega (arith, add-mul v 1 (2 ^ (64 - n)), whole-word n hn)
+
+pub word-lt : (s : Str) → length s ≤ 58 → wordOf s < 2 ^ 64
+word-lt s h = omega (arith, word-value s, room (length s) h, moved-lt (value s) (length s) (value-lt s) (omega arith))
+
+-- what is moved to the top is a multiple of 64
+over : (v n : ℕ) → n ≤ 58 → v * 2 ^ (64 - n) ≡ v * 2 ^ (58 - n) * 64
+over v n h =
+    ap (λ (k : ℕ). v * 2 ^ k) (let e : 64 - n ≡ 58 - n + 6 = omega arith in e)
+    ∙ ap (λ (k : ℕ). v * k) (pow-add 2 (58 - n) 6) ∙ sym (mul-assoc v (2 ^ (58 - n)) 64)
+
+pub word-length : (s : Str) → length s ≤ 58 → wordOf s % 64 ≡ length s
+word-length s h = omega (arith, word-value s, over (value s) (length s) h)
+
+-- the string of a word: what stands above the rest, as digits
+pub str-top : (w : ℕ) → strOf w ≡ field (w % 64) (w / 2 ^ (64 - w % 64))
+unfolding strOf
+str-top w =
+    ap (λ (k : ℕ). take (w % 64) (field k w)) (let e : 64 ≡ w % 64 + (64 - w % 64) = omega arith in e) ∙ field-top (w % 64) (64 - w % 64) w
+
+pub str-word : (s : Str) → length s ≤ 58 → strOf (wordOf s) ≡ s
+str-word s h =
+    str-top (wordOf s)
+    ∙ ap₂ (λ (n w : ℕ). field n (w / 2 ^ (64 - n))) (word-length s h) (word-value s)
+    ∙ ap (field (length s)) (high (value s) (64 - length s) (omega (arith, room (length s) h)))
+    ∙ field-value s
+
+pub word-injective : (s t : Str) → length s ≤ 58 → length t ≤ 58 → wordOf s ≡ wordOf t → s ≡ t
+word-injective s t hs ht e = sym (str-word s hs) ∙ ap strOf e ∙ str-word t ht
+
+-- the word of a word's string: what stands above the rest, and the length
+word-str : (w : ℕ) → w < 2 ^ 64 → w % 64 ≤ 58 → wordOf (strOf w) ≡ w / 2 ^ (64 - w % 64) * 2 ^ (64 - w % 64) + w % 64
+word-str w h hn =
+    word-value (strOf w)
+    ∙ ap₂ (λ (v n : ℕ). v * 2 ^ (64 - n) + n)
+    (ap value (str-top w) ∙ value-field (w % 64) (w / 2 ^ (64 - w % 64))
+    ∙ mod-eq-of-lt (div-lt-iff-lt-mul (pow-pos (64 - w % 64)) .1 (omega (arith, whole-word (w % 64) (omega arith)))))
+    (str-length w)
+
+-- moved up by n digits, the m low digits remain
+moved : (x m n : ℕ) → (x * 2 ^ n) % 2 ^ (m + n) ≡ x % 2 ^ m * 2 ^ n
+moved x m n =
+    mod-pow-add (x * 2 ^ n) m n ∙ ap₂ (λ (a b : ℕ). a % 2 ^ m * 2 ^ n + b) (shl-shr x n) (mul-mod-left x (2 ^ n)) ∙ omega arith
+
+-- the two tests over plain numbers: r is what stands behind the digits
+behind : (w n m q r : ℕ) → q * 2 ^ m + r ≡ w → r < 2 ^ m → n ≤ r → m + n ≡ 64
+    → eqb w (q * 2 ^ m + n) ≡ eqb (((w - n) * 2 ^ n) % 2 ^ 64) 0
+behind w n m q r ew hr hn e64 =
+    let rest : (w - n) % 2 ^ m ≡ r - n =
+    ap (λ (x : ℕ). x % 2 ^ m) (let e : w - n ≡ q * 2 ^ m + (r - n) = omega arith in e) ∙ low q m (omega arith) in
+    let up : ((w - n) * 2 ^ n) % 2 ^ 64 ≡ (r - n) * 2 ^ n =
+    ap (λ (k : ℕ). ((w - n) * 2 ^ n) % 2 ^ k) (sym e64) ∙ moved (w - n) m n ∙ ap (λ (x : ℕ). x * 2 ^ n) rest in
+    iff
+    (λ p. let z : r - n ≡ 0 = omega (arith, eqb-true w (q * 2 ^ m + n) p) in eq-eqb _ _ (up ∙ ap (λ (x : ℕ). x * 2 ^ n) z ∙ omega arith))
+    (λ p. eq-eqb w (q * 2 ^ m + n) (omega (arith, le-mul-of-pos-right (r - n) (pow-pos n), eqb-true (((w - n) * 2 ^ n) % 2 ^ 64) 0 p)))
+
+-- a word is its string's when nothing stands behind the digits but the length
+pub word-test : (w : ℕ) → w < 2 ^ 64 → w % 64 ≤ 58 → eqb w (wordOf (strOf w)) ≡ eqb (((w - w % 64) * 2 ^ (w % 64)) % 2 ^ 64) 0
+word-test w h hn =
+    let m = 64 - w % 64 in
+    ap (eqb w) (word-str w h hn)
+    ∙ behind w (w % 64) m (w / 2 ^ m) (w % 2 ^ m) (split w m) (mod-lt w (pow-pos m))
+    (omega (arith, split w m, over (w / 2 ^ m) (w % 64) hn)) (omega arith)
+
+-- what a test of a word asks: the length within the limit, and nothing behind the digits
+pub is-word : (most w : ℕ) → most ≤ 58 → w < 2 ^ 64 → (leb (w % 64) most && eqb (((w - w % 64) * 2 ^ (w % 64)) % 2 ^ 64) 0) ≡ isWord most w
+unfolding isWord
+is-word most w hm hw = by (leb (w % 64) most) refl
+  where
+    by : (b : Bool) → leb (w % 64) most ≡ b
+        → (leb (w % 64) most && eqb (((w - w % 64) * 2 ^ (w % 64)) % 2 ^ 64) 0) ≡ (leb (length (strOf w)) most && eqb w (wordOf (strOf w)))
+    by true e = simp (str-length, e) (sym (word-test w hw (omega (arith, leb-true (w % 64) most e))))
+    by false e = simp (str-length, e)
+
+grown : (v d n : ℕ) → n < 64 → (v * 2 + d) * 2 ^ (64 - (n + 1)) + (n + 1) ≡ v * 2 ^ (64 - n) + n + 1 + d * 2 ^ (63 - n)
+grown v d n h =
+    let p : 2 ^ (64 - n) ≡ 2 * 2 ^ (63 - n) =
+    ap (λ (k : ℕ). 2 ^ k) (let e : 64 - n ≡ suc (63 - n) = omega arith in e) ∙ pow-suc 2 (63 - n) ∙ mul-comm (2 ^ (63 - n)) 2 in
+    let f : v * 2 * 2 ^ (63 - n) ≡ v * 2 ^ (64 - n) = mul-assoc v 2 (2 ^ (63 - n)) ∙ ap (λ (k : ℕ). v * k) (sym p) in
+    ap (λ (k : ℕ). (v * 2 + d) * 2 ^ k + (n + 1)) (let e : 64 - (n + 1) ≡ 63 - n = omega arith in e)
+    ∙ omega (arith, add-mul (v * 2) d (2 ^ (63 - n)))
+
+-- a digit more: the length rises by one, and the digit comes behind the others
+pub word-grown : (s : Str) (d : Bool) → length s < 58 → wordOf (s ▹ d) ≡ wordOf s + 1 + digit d * 2 ^ (63 - length s)
+word-grown s d h =
+    word-value (s ▹ d)
+    ∙ ap₂ (λ (v n : ℕ). v * 2 ^ (64 - n) + n) (value-snoc 0 s d) (length-append s (d ∷ []))
+    ∙ grown (value s) (digit d) (length s) (omega arith)
+    ∙ ap (λ (w : ℕ). w + 1 + digit d * 2 ^ (63 - length s)) (sym (word-value s))
