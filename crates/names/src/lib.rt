@@ -10,7 +10,9 @@ ghost use Rattle.rules.specs.Names.{all, rising, covered, below};
 ghost use Rattle.rules.specs.Stored.{strsIn, isStoredName};
 ghost use Rattle.rules.specs.Refusals.{touches, unknownTo};
 use rules::Words;
-use strings::{comes_before, is_prefix, is_word};
+use strings::comes_before;
+use strings::is_prefix;
+use strings::is_word;
 
 // A name has at most so many strings.
 pub const STRINGS: usize = 16;
