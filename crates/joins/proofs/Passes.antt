@@ -46,6 +46,14 @@ unfolding run
 run-length ws i zero = refl
 run-length ws i (suc c) = ap suc (run-length ws (suc i) c)
 
+-- one word copied: what is there, with the words from the next on, stays as it was
+pub copy-more : (w ws z : List ℕ) (i c : ℕ) → i < c → sets w i (run ws i (c - i)) ≡ z → sets (set w i (getD ws i 0)) (i + 1) (run ws (i + 1) (c - (i + 1))) ≡ z
+copy-more w ws z i c h e =
+    ap (λ (n : ℕ). sets (set w i (getD ws i 0)) n (run ws (i + 1) (c - (i + 1)))) (add-one i) ∙ ap (sets w i) (sym (run-more ws i c h)) ∙ e
+
+pub copy-end : (w ws z : List ℕ) (i c : ℕ) → c ≤ i → sets w i (run ws i (c - i)) ≡ z → w ≡ z
+copy-end w ws z i c h e = sym (ap (sets w i) (run-end ws i c h)) ∙ e
+
 -- the words of a list that stands between two others
 run-part : (p l r : List ℕ) → run (p ++ (l ++ r)) (length p) (length l) ≡ l
 unfolding run

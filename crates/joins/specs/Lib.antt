@@ -1,2 +1,3 @@
--- What the private functions do, on lists of words. The public contract cites none of it.
+-- What the private functions do, on lists of words and on working names. The public contract cites none of it.
 pub mod Passes
+pub mod Working
