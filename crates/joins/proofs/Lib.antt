@@ -3,3 +3,4 @@ pub mod Passes
 pub mod Strings
 pub mod Adding
 pub mod Settling
+pub mod Finding
