@@ -2,16 +2,19 @@
 -- is a prefix of something that stays. Assumes nothing.
 use mathlib.Core.Path.{_≡_, refl, sym, ap, _∙_, subst}
 use mathlib.Core.Bool.{Bool, true, false, not}
-use mathlib.Core.List.{List, [], _∷_, _++_}
+use mathlib.Core.List.{List, [], _∷_, _++_, map}
 use mathlib.Core.Logic.{_⊎_, inl, inr, ⊎-elim}
-use Rattle.rules.specs.Strings.{Str, prefix, less}
+use Prim.Native.Nat.{ℕ, _≤_}
+use lib.ListN.{length}
+use Rattle.rules.specs.Strings.{Str, prefix, less, wordOf}
 use Rattle.rules.specs.Names.{Name, rising, union}
 use Rattle.laws.proofs.Tests.{In, in-left, in-right, in-append, Some}
 use Rattle.laws.proofs.Prefix.{prefix-refl, prefix-trans, prefix-antisym}
 use Rattle.laws.proofs.Rising.{less-trans, less-total, rising-head, rising-tail, rising-cons, rising-antichain, rising-unique}
 use Rattle.laws.proofs.Union.{Top, union-top, top-union, union-rising}
-use Rattle.joins.specs.Passes.{passBy}
-use Rattle.joins.proofs.Strings.{turnS, passS}
+use Rattle.laws.proofs.Lawful.{Short}
+use Rattle.joins.specs.Passes.{passBy, passW}
+use Rattle.joins.proofs.Strings.{turnS, passS, pass-words}
 
 -- s added to a rising name
 abbrev pub add : Str → Name → Name
@@ -144,3 +147,31 @@ adding-is-union m n h =
   where
     r : rising (addAll m n) ≡ true
     r = all-rising m n h
+
+-- ---- on words
+
+-- each word of m added to n
+unfoldable pub unionW : List ℕ → List ℕ → List ℕ
+unionW [] n = n
+unionW (s ∷ m) n = unionW m (passW true s n)
+
+pub union-more : (s : ℕ) (m n : List ℕ) → unionW (s ∷ m) n ≡ unionW m (passW true s n)
+unfolding unionW
+union-more s m n = refl
+
+pub union-end : (n : List ℕ) → unionW [] n ≡ n
+unfolding unionW
+union-end n = refl
+
+add-short : (most : ℕ) (s : Str) (n : Name) → length s ≤ most → Short most n → Short most (add s n)
+add-short most s n hs hn x i = ⊎-elim (λ e. rw e hs) (λ j. hn x j) (add-in s n x i)
+
+all-words : (m n : Name) → Short 58 m → Short 58 n → unionW (map wordOf m) (map wordOf n) ≡ map wordOf (addAll m n)
+unfolding unionW addAll
+all-words [] n hm hn = refl
+all-words (s ∷ m) n hm hn =
+    let hs = hm s (inl refl) in
+    ap (unionW (map wordOf m)) (pass-words true s false n hs hn) ∙ all-words m (add s n) (λ x i. hm x (inr i)) (add-short 58 s n hs hn)
+
+pub union-words : (m n : Name) → Short 58 m → Short 58 n → rising n ≡ true → unionW (map wordOf m) (map wordOf n) ≡ map wordOf (union m n)
+union-words m n hm hn h = all-words m n hm hn ∙ ap (map wordOf) (adding-is-union m n h)

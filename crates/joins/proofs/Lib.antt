@@ -1,5 +1,6 @@
 -- Laws that several proofs cite.
 pub mod Passes
+pub mod Shapes
 pub mod Strings
 pub mod Adding
 pub mod Settling
