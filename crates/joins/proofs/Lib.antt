@@ -5,3 +5,4 @@ pub mod Strings
 pub mod Adding
 pub mod Settling
 pub mod Finding
+pub mod Reducing

@@ -3,14 +3,14 @@ use mathlib.Core.Path.{_≡_}
 use mathlib.Core.Bool.{Bool, true, false, cond}
 use mathlib.Core.List.{List, [], _∷_, map}
 use Prim.Native.Nat.{ℕ, _-_, _≤_}
-use lib.Dec.{leb}
 use lib.ListN.{length, replicate}
 use lib.Seq.{sets}
-use Rattle.rules.specs.Limits.{narrow}
 use Rattle.rules.specs.Strings.{wordOf, strOf, siblings}
-use Rattle.rules.specs.Names.{Name, all, rising, below}
+use Rattle.rules.specs.Names.{Name}
 use Rattle.rules.specs.Stamps.{Stamp}
 use Rattle.rules.specs.declared.Words.{Words}
+use Rattle.laws.proofs.Steps.{Proper}
+use Rattle.laws.proofs.Lawful.{Short}
 use Rattle.joins.specs.declared.Wide.{Wide}
 use Rattle.joins.specs.declared.Both.{Both}
 use Rattle.joins.specs.declared.Found.{Found}
@@ -57,12 +57,15 @@ strs n = map strOf (front (n .words) (n .count))
 unfoldable pub stampIn : Wide → Wide → Stamp
 stampIn u i = record { update = strs u; id = strs i }
 
--- two working names that are a stamp's, of which all holds that reduction needs
+-- what reduction needs of a stamp: names that rise, u below i, and no more than working names have room for
+pub record Sized (x : Stamp) : Type 0 where
+  pub proper : Proper x
+  pub shortUpdate : Short 24 (x .update)
+  pub shortId : Short 24 (x .id)
+  pub few : length (x .id) ≤ 32
+
+-- two working names that are those of such a stamp
 pub record Ready (u i : Wide) : Type 0 where
+  pub sized : Sized (stampIn u i)
   pub update : u ≡ wideOf (strs u)
   pub id : i ≡ wideOf (strs i)
-  pub updateRising : rising (strs u) ≡ true
-  pub idRising : rising (strs i) ≡ true
-  pub belowId : below (strs u) (strs i) ≡ true
-  pub short : all (λ s. leb (length s) (narrow .digits)) (strs i) ≡ true
-  pub few : length (strs i) ≤ 32
