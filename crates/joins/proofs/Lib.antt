@@ -6,3 +6,4 @@ pub mod Adding
 pub mod Settling
 pub mod Finding
 pub mod Reducing
+pub mod Merging

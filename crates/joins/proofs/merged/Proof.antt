@@ -1,54 +1,64 @@
+-- `joins::merged` meets its contract: the unions are ready for reduction, and the limit is asked of what reduction leaves. Assumes nothing.
+use mathlib.Core.Path.{_≡_}
+use mathlib.Core.Bool.{false}
+use native.Mathlib.Omega.{arith}
 use borrow.Author.Needs.{needs}
+use Rattle.rules.specs.Stamps.{join}
+use Rattle.rules.specs.Stored.{held}
+use Rattle.joins.specs.Working.{bothOf}
+use Rattle.joins.proofs.Merging.{stored-names, united-ready, united-join, update-fits, too-many, few-enough}
 use Rattle.joins.proofs.merged.Statement.{statement}
 use Rattle.joins.proofs.merged.Tie as tie
-use Rattle.joins.proofs.merged.Reads as reads
-use Rattle.joins.proofs.merged.Lts as lts
-use Rattle.joins.proofs.narrowed.Reads as narrowed-reads
-use Rattle.joins.proofs.reduce.Reads as reduce-reads
-use Rattle.joins.proofs.refused.Reads as refused-reads
-use Rattle.joins.proofs.unite.Reads as unite-reads
 
--- src/lib.rt:240:9
 unite-requires : tie.Need-unite-requires
-unite-requires c κs = ?
+unite-requires c κs = let g = c .before .before .before .before in (stored-names (g .args .a) (g .pre .0) .0, stored-names (g .args .b) (g .pre .1) .0)
 
--- src/lib.rt:241:9
 unite-requires-2 : tie.Need-unite-requires-2
-unite-requires-2 c κs = ?
+unite-requires-2 c κs = let g = c .before .before .before .before .before in (stored-names (g .args .a) (g .pre .0) .1, stored-names (g .args .b) (g .pre .1) .1)
 
--- src/lib.rt:242:9
 reduce-requires : tie.Need-reduce-requires
-reduce-requires c κs = ?
+reduce-requires c κs =
+    let d = c .before in
+    let g = d .before .before .before .before .before in
+    united-ready (g .args .a) (g .args .b) (g .pre .0) (g .pre .1) (d .unite .result) (c .unite2 .result) (d .unite .ensures) (c .unite2 .ensures)
 
--- src/lib.rt:246:9
+-- what reduction leaves is the join
+module _ (c : tie.After-reduce) where
+  abbrev start : tie.Start
+  start = c .before .before .before .before .before .before .before
+
+  joined : c .reduce .result ≡ bothOf false (join (held (start .args .a)) (held (start .args .b)))
+  joined =
+      let e = c .before in
+      let d = e .before in
+      united-join (start .args .a) (start .args .b) (start .pre .0) (start .pre .1) (d .unite .result) (e .unite2 .result) (d .unite .ensures) (e .unite2 .ensures)
+      (c .reduce .result) (c .reduce .ensures)
+
 refused-requires : tie.Need-refused-requires
 refused-requires c κs = search needs
 
--- src/lib.rt:246:9
 returns : tie.Need-returns
-returns c = ?
+returns c =
+    let r = c .before .before .before .before .before in
+    let g = start r in
+    too-many (g .args .a) (g .args .b) (g .pre .0) (g .pre .1) (r .reduce .result) (joined r) (c .refused .result) (c .before .if1 .taken) (c .refused .ensures)
 
--- src/lib.rt:248:9
 narrowed-requires : tie.Need-narrowed-requires
-narrowed-requires c κs = ?
+narrowed-requires c κs =
+    let r = c .before .before .before .before in
+    let g = start r in
+    omega (arith, update-fits (g .args .a) (g .args .b) (g .pre .0) (g .pre .1) (r .reduce .result) (joined r), c .if1 .left)
 
--- src/lib.rt:249:9
 narrowed-requires-2 : tie.Need-narrowed-requires-2
 narrowed-requires-2 c κs = search needs
 
--- src/lib.rt:232:1
 returns-2 : tie.Need-returns-2
-returns-2 c = ?
+returns-2 c =
+    let d = c .before in
+    let r = d .before .before .before .before .before in
+    let g = start r in
+    few-enough (g .args .a) (g .args .b) (g .pre .0) (g .pre .1) (r .reduce .result) (joined r) (d .narrowed .result) (c .narrowed2 .result) (d .before .if1 .left)
+    (d .narrowed .ensures) (c .narrowed2 .ensures)
 
 pub merged-spec : {M : Type 1} → statement M
-merged-spec =
-    tie.close
-    (tie.spec
-    unite-requires
-    unite-requires-2
-    reduce-requires
-    refused-requires
-    returns
-    narrowed-requires
-    narrowed-requires-2
-    returns-2)
+merged-spec = tie.close (tie.spec unite-requires unite-requires-2 reduce-requires refused-requires returns narrowed-requires narrowed-requires-2 returns-2)
