@@ -5,3 +5,4 @@ pub mod Fork
 pub mod Unite
 pub mod Settle
 pub mod Join
+pub mod Tables
