@@ -6,3 +6,4 @@ pub mod Unite
 pub mod Settle
 pub mod Join
 pub mod Tables
+pub mod Keeps

@@ -5,13 +5,15 @@ use mathlib.Core.Bool.{Bool, true, false, cond, not, _||_}
 use mathlib.Core.List.{List, [], _∷_}
 use mathlib.Core.Logic.{⊎-elim}
 use Prim.Native.Nat.{ℕ, zero, suc, _+_, _≤_, _<_}
+use native.Mathlib.Nat.{sub-zero}
 use native.Mathlib.Omega.{arith}
 use lib.Dec.{eqb, leb}
-use lib.ListN.{length, getD, set, length-set}
+use lib.ListN.{length, getD, set, replicate, length-set}
 use lib.Seq.{getD-set-same, getD-set-other}
 use borrow.Author.Tests.{leb-false, lt-leb}
 use Rattle.rules.specs.Limits.{Limits}
-use Rattle.rules.specs.Stamps.{Stamp, lawful, sumShares}
+use Rattle.rules.specs.Strings.{share, whole}
+use Rattle.rules.specs.Stamps.{Stamp, start, lawful, sumShares}
 use Rattle.rules.specs.Stored.{wordsOf, stored, strsIn, held, blank, absent}
 use Rattle.rules.specs.Refusals.{first}
 use Rattle.rules.specs.Tables.{Table, outside, at, stampAt, noSlot, present, lowest}
@@ -168,3 +170,13 @@ sum-set most (q ∷ t) (suc a) r h = omega (arith, sum-set most t a r (omega ari
 pub share-blank : (L : Limits) (most : ℕ) → shareOf most (blank L) ≡ 0
 unfolding held blank stored wordsOf strsIn sumShares
 share-blank L most = refl
+
+pub sum-blank : (L : Limits) (most n : ℕ) → sumTable most (replicate n (blank L)) ≡ 0
+unfolding sumTable
+sum-blank L most zero = refl
+sum-blank L most (suc n) = omega (arith, share-blank L most, sum-blank L most n)
+
+-- and [e|e] has the whole
+pub share-start : (most : ℕ) → sumShares most (start .id) ≡ whole most
+unfolding sumShares share
+share-start most = rw sub-zero (omega arith)
