@@ -32,7 +32,7 @@ use Rattle.histories.proofs.Config.{Config, put, Where, here, there, is
 use Rattle.histories.proofs.Update.{updated, update-sound}
 use Rattle.histories.proofs.Fork.{forked, fork-sound}
 use Rattle.histories.proofs.Join.{joined, join-sound}
-use Rattle.histories.proofs.Tables.{Passed, done-passed, getD-put, put-self, present-size, present-there, present-by, at-put, present-blank, present-stored, stamp-stored, lowest-absent, lowest-size, shareOf, sum-set, share-blank, sum-blank, share-start}
+use Rattle.histories.proofs.Tables.{done-passed, joinTests, getD-put, put-self, present-size, present-there, present-by, at-put, present-blank, present-stored, stamp-stored, lowest-absent, lowest-size, shareOf, sum-set, share-blank, sum-blank, share-start}
 
 -- what a table and its events come to, with no limits
 abbrev pub configOf : Limits → World → Config
@@ -259,27 +259,14 @@ module _ (L : Limits) (room : L .digits ≤ 58) where
 
     good-join : (a b : ℕ) → Good L n (after L w (joins a b))
     unfolding after joinAt
-    good-join a b = by (first tests) refl
+    good-join a b = by (first (joinTests L t a b)) refl
       where
-        tests : List (Bool × Refusal)
-        tests =
-            (badSize t, Unfit)
-            ∷ (noSlot L t a, NoSlot)
-            ∷ (noSlot L t b, NoSlot)
-            ∷ (eqb a b, OneSlot)
-            ∷ (unlawful L (at t a), Unfit)
-            ∷ (unlawful L (at t b), Unfit)
-            ∷ (overlap (stampAt t a) (stampAt t b), Overlap)
-            ∷ (unseen (stampAt t a) (stampAt t b), Unseen)
-            ∷ (many L (join (stampAt t a) (stampAt t b)), Many)
-            ∷ []
-
         step : Answer → Step
         step x = stepped x a t (set (set t a (stored L (join (stampAt t a) (stampAt t b)))) b (blank L))
 
-        by : (x : Answer) → first tests ≡ x → Good L n (afterJoin w a b (step x) (step x .answer))
+        by : (x : Answer) → first (joinTests L t a b) ≡ x → Good L n (afterJoin w a b (step x) (step x .answer))
         by Done e =
-            let p = done-passed tests e in
+            let p = done-passed (joinTests L t a b) e in
             joined-good a (is-not (p .1 .0)) b (is-not (p .1 .1 .0)) (eqb-false a b (p .1 .1 .1 .0)) (p .1 .1 .1 .1 .1 .1 .1 .1 .0)
         by (Refused r) e = g
 

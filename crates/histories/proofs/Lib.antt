@@ -7,3 +7,4 @@ pub mod Settle
 pub mod Join
 pub mod Tables
 pub mod Keeps
+pub mod Right

@@ -1,7 +1,7 @@
 -- What a table holds after a store, which slot a fork takes, what the shares of all slots come to after a store, and what a call's
 -- answer tells of its tests. Assumes nothing.
 use mathlib.Core.Path.{_≡_, refl, sym, ap, _∙_}
-use mathlib.Core.Bool.{Bool, true, false, cond, not, _||_}
+use mathlib.Core.Bool.{Bool, true, false, cond, not, _&&_, _||_}
 use mathlib.Core.List.{List, [], _∷_}
 use mathlib.Core.Logic.{⊎-elim}
 use Prim.Native.Nat.{ℕ, zero, suc, _+_, _≤_, _<_}
@@ -13,14 +13,15 @@ use lib.Seq.{getD-set-same, getD-set-other}
 use borrow.Author.Tests.{leb-false, lt-leb}
 use Rattle.rules.specs.Limits.{Limits}
 use Rattle.rules.specs.Strings.{share, whole}
-use Rattle.rules.specs.Stamps.{Stamp, start, lawful, sumShares}
-use Rattle.rules.specs.Stored.{wordsOf, stored, strsIn, held, blank, absent}
-use Rattle.rules.specs.Refusals.{first}
-use Rattle.rules.specs.Tables.{Table, outside, at, stampAt, noSlot, present, lowest}
+use Rattle.rules.specs.Stamps.{Stamp, start, lawful, join, sumShares}
+use Rattle.rules.specs.Stored.{wordsOf, stored, strsIn, held, unlawful, blank, absent}
+use Rattle.rules.specs.Refusals.{first, many, overlap, unseen}
+use Rattle.rules.specs.Tables.{Table, outside, at, stampAt, badSize, noSlot, present, lowest}
 use Rattle.rules.specs.Histories.{sumTable}
 use Rattle.rules.specs.Promises.{Usual}
 use Rattle.rules.specs.declared.Record.{Record}
 use Rattle.rules.specs.declared.Refusal.{Refusal}
+use Rattle.rules.specs.declared.Refusal.the-variants.{NoSlot, OneSlot, Many, Overlap, Unseen, Unfit}
 use Rattle.rules.specs.declared.Answer.{Answer}
 use Rattle.rules.specs.declared.Answer.the-variants.{Done, Refused}
 use Rattle.laws.proofs.Tests.{clash, not-true, is-not, not-is, or-right}
@@ -65,6 +66,31 @@ first-usual (t ∷ ts) u = by (t .0) refl (λ h. first-usual ts h)
     by : (b : Bool) → t .0 ≡ b → (Usuals ts → UsualAnswer (first ts)) → UsualAnswer (cond b (Refused (t .1)) (first ts))
     by true e ih = u .0 e
     by false e ih = ih (u .1 e)
+
+-- the tests of a join and of a compare, in their order
+abbrev pub joinTests : Limits → Table → ℕ → ℕ → List (Bool × Refusal)
+joinTests L t a b =
+    (badSize t, Unfit)
+    ∷ (noSlot L t a, NoSlot)
+    ∷ (noSlot L t b, NoSlot)
+    ∷ (eqb a b, OneSlot)
+    ∷ (unlawful L (at t a), Unfit)
+    ∷ (unlawful L (at t b), Unfit)
+    ∷ (overlap (stampAt t a) (stampAt t b), Overlap)
+    ∷ (unseen (stampAt t a) (stampAt t b), Unseen)
+    ∷ (many L (join (stampAt t a) (stampAt t b)), Many)
+    ∷ []
+
+abbrev pub compareTests : Limits → Table → ℕ → ℕ → List (Bool × Refusal)
+compareTests L t a b =
+    (badSize t, Unfit)
+    ∷ (noSlot L t a, NoSlot)
+    ∷ (noSlot L t b, NoSlot)
+    ∷ (unlawful L (at t a), Unfit)
+    ∷ (unlawful L (at t b), Unfit)
+    ∷ (not (eqb a b) && overlap (stampAt t a) (stampAt t b), Overlap)
+    ∷ (not (eqb a b) && unseen (stampAt t a) (stampAt t b), Unseen)
+    ∷ []
 
 -- ---- stores
 
