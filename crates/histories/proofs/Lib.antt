@@ -8,3 +8,4 @@ pub mod Join
 pub mod Tables
 pub mod Keeps
 pub mod Right
+pub mod Every
