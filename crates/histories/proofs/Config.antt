@@ -97,7 +97,7 @@ pub record Reads (C D : Config) (old : ℕ → List ℕ) : Type 0 where
 pub in-one : {A : Type 0} (x y : A) → In y (x ∷ []) → y ≡ x
 in-one x y i = ⊎-elim (λ e. e) (λ h. absurd h) i
 
--- the old slots of a list of slots
+-- the lists of some slots, one after the other: of old slots, or of events
 unfoldable pub gather : (ℕ → List ℕ) → List ℕ → List ℕ
 gather old [] = []
 gather old (x ∷ S) = old x ++ gather old S

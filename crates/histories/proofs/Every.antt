@@ -3,10 +3,11 @@
 use mathlib.Core.List.{List, [], _∷_}
 use Prim.Native.Nat.{ℕ, _≤_}
 use native.Mathlib.Omega.{arith}
-use Rattle.rules.specs.Limits.{Limits, narrow, records}
+use Rattle.rules.specs.Limits.{Limits, narrow}
 use Rattle.rules.specs.Histories.{Call, World, after, afterAll, begin, history}
-use Rattle.rules.specs.Promises.{Right, EveryHistory}
-use Rattle.histories.proofs.Keeps.{Good, good-after, good-begin}
+use Rattle.rules.specs.Promises.{EveryHistory}
+use Rattle.histories.proofs.Good.{Good, good-begin}
+use Rattle.histories.proofs.Keeps.{good-after}
 use Rattle.histories.proofs.Right.{good-right}
 
 module _ (L : Limits) (room : L .digits ≤ 58) where

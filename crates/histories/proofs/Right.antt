@@ -3,22 +3,22 @@
 use mathlib.Core.Path.{_≡_, refl, sym, ap, ap₂, _∙_, subst}
 use mathlib.Core.Bool.{Bool, true, false, cond, not, _&&_, _||_}
 use mathlib.Core.List.{List, [], _∷_, _++_, map}
-use mathlib.Core.Logic.{inl, inr, ⊎-elim, _↔_}
+use mathlib.Core.Logic.{inl, _↔_}
 use Prim.Native.Nat.{ℕ, zero, suc, _+_, _≤_, _<_}
 use native.Mathlib.Nat.{zero-add}
 use native.Mathlib.Omega.{arith}
-use lib.Dec.{eqb, leb, ltb}
-use lib.ListN.{length, getD, drop, drop-of-length-le}
+use lib.Dec.{eqb}
+use lib.ListN.{length, drop, drop-of-length-le}
 use lib.Seq.{drop-cons}
 use borrow.Author.Tests.{eqb-true, eqb-false, eq-eqb, ne-eqb, le-ltb}
 use Rattle.rules.specs.Limits.{Limits, records}
-use Rattle.rules.specs.Strings.{Str, prefix, whole}
-use Rattle.rules.specs.Names.{Name, any, all, member, covered, below, unions}
-use Rattle.rules.specs.Stamps.{Stamp, join, verdict, compare}
-use Rattle.rules.specs.Stored.{held, isStored, unlawful, absent}
-use Rattle.rules.specs.Refusals.{number, first, long, many, touches, overlap, unknownTo, unseen}
+use Rattle.rules.specs.Strings.{Str}
+use Rattle.rules.specs.Names.{Name, any, covered, below, unions}
+use Rattle.rules.specs.Stamps.{Stamp, verdict, compare}
+use Rattle.rules.specs.Stored.{unlawful, absent}
+use Rattle.rules.specs.Refusals.{number, first, long, touches, overlap, unknownTo, unseen}
 use Rattle.rules.specs.Values.{told}
-use Rattle.rules.specs.Tables.{Table, outside, at, stampAt, badSize, noSlot, present, full, stepped, oneSlot, updateAt, forkAt, joinAt, compareAt, orNext, spareFrom, sparedAfter, spareAt}
+use Rattle.rules.specs.Tables.{Table, outside, at, stampAt, badSize, present, full, stepped, oneSlot, updateAt, forkAt, joinAt, compareAt, orNext, spareFrom, spareAt}
 use Rattle.rules.specs.Histories.{World, Events, eventsAt, within, eventVerdict, isObsolete, slotsFrom, isBehind, eventsOf}
 use Rattle.rules.specs.Promises.{Usual, UsualSlot, UsualCompared, UsualSpared, Right}
 use Rattle.rules.specs.declared.Verdict.{Verdict}
@@ -27,23 +27,24 @@ use Rattle.rules.specs.declared.Refusal.{Refusal}
 use Rattle.rules.specs.declared.Refusal.the-variants.{NoSlot, OneSlot, Full, Long, Many, Overlap, Unseen, Unfit}
 use Rattle.rules.specs.declared.Answer.{Answer}
 use Rattle.rules.specs.declared.Answer.the-variants.{Done, Refused}
-use Rattle.rules.specs.declared.Compared.{Compared}
 use Rattle.rules.specs.declared.Compared.the-variants.{Is}
 use Rattle.rules.specs.declared.Spared.{Spared}
 use Rattle.rules.specs.declared.Spared.the-variants.{Spare, Kept}
-use Rattle.laws.proofs.Tests.{clash, not-true, iff, and-left, and-right, or-cases, is-not, not-is, In, any-some, some-any, all-each, each-all}
+use Rattle.laws.proofs.Tests.{clash, not-true, iff, and-left, and-right, is-not, not-is, In, any-some, some-any, all-each, each-all}
 use Rattle.laws.proofs.Below.{member-in, covered-some, below-each, each-below}
 use Rattle.laws.proofs.Union.{covered-unions}
 use Rattle.laws.proofs.Stored.{stored-not-unlawful}
 use Rattle.histories.proofs.Config.{Config, Among, Seen, Covers, AllPresent, in-one, gather, in-gather, gather-in}
-use Rattle.histories.proofs.Tables.{Passed, passed-done, done-passed, joinTests, compareTests, Usuals, UsualAnswer, first-usual, present-by}
-use Rattle.histories.proofs.Keeps.{configOf, Good}
+use Rattle.histories.proofs.Tables.{forkTests, joinTests, compareTests, passed-done, done-passed, Usuals, end, never, gives, UsualAnswer, first-usual, present-by}
+use Rattle.histories.proofs.Good.{configOf, Good}
 
 -- ---- events and names of some slots
 
+-- some slot of one is that one
 among-one : (P : ℕ → Type 0) (b : ℕ) → P b ↔ Among (b ∷ []) P
 among-one P b = (λ p. record { slot = b; inside = inl refl; holds = p }, λ s. subst P (in-one b (s .slot) (s .inside)) (s .holds))
 
+-- the events of slots stand one slot after the other
 events-gather : (w : World) (S : List ℕ) → eventsOf w S ≡ gather (eventsAt w) S
 unfolding eventsOf gather
 events-gather w [] = refl
@@ -51,9 +52,10 @@ events-gather w (a ∷ S) = ap (λ (l : Events). eventsAt w a ++ l) (events-gath
 
 -- an event of the slots taken together is one that some slot has seen
 events-among : (w : World) (S : List ℕ) (e : ℕ) → In e (eventsOf w S) ↔ Among S (λ b. In e (eventsAt w b))
-events-among w S e =
-    (λ i. gather-in (eventsAt w) S e (rw (events-gather w S) at i),
-    λ a. rw (events-gather w S) (in-gather (eventsAt w) S (a .slot) e (a .inside) (a .holds)))
+events-among w S e = (
+  λ i. gather-in (eventsAt w) S e (rw (events-gather w S) at i),
+  λ a. rw (events-gather w S) (in-gather (eventsAt w) S (a .slot) e (a .inside) (a .holds)),
+)
 
 any-map : {A B : Type 0} (p : B → Bool) (f : A → B) (l : List A) → any p (map f l) ≡ any (λ x. p (f x)) l
 unfolding any
@@ -63,9 +65,10 @@ any-map p f (x ∷ l) = ap (λ (b : Bool). p (f x) || b) (any-map p f l)
 -- what the union of the slots' names covers, some slot's name covers
 names-among : (f : ℕ → Name) (S : List ℕ) (r : Str) → (covered r (unions (map f S)) ≡ true) ↔ Among S (λ b. covered r (f b) ≡ true)
 names-among f S r =
-    let e = covered-unions r (map f S) ∙ any-map (covered r) f S in
-    (λ c. let x = any-some (λ (b : ℕ). covered r (f b)) S (sym e ∙ c) in record { slot = x .one; inside = x .inside; holds = x .passes },
-    λ a. e ∙ some-any (λ (b : ℕ). covered r (f b)) S (a .slot) (a .inside) (a .holds))
+    let e = covered-unions r (map f S) ∙ any-map (covered r) f S in (
+      λ c. let x = any-some (λ (b : ℕ). covered r (f b)) S (sym e ∙ c) in record { slot = x .one; inside = x .inside; holds = x .passes },
+      λ a. e ∙ some-any (λ (b : ℕ). covered r (f b)) S (a .slot) (a .inside) (a .holds),
+    )
 
 in-any : (e : ℕ) (Y : Events) → In e Y → any (eqb e) Y ≡ true
 in-any e Y i = some-any (eqb e) Y e i (eq-eqb e e refl)
@@ -75,11 +78,9 @@ any-in e Y c = let x = any-some (eqb e) Y c in rw (eqb-true e (x .one) (x .passe
 
 -- ---- numbers that such a table gives
 
+-- a refusal is told by its number
 usual-by : (r : Refusal) → (number r ≡ 8 → ⊥) × (number r ≡ 9 → ⊥) × (number r ≡ 12 → ⊥) → Usual r
 usual-by r p = (λ e. p .0 (ap number e), λ e. p .1 (ap number e), λ e. p .2 (ap number e))
-
-never : {A : Type 0} {b : Bool} → b ≡ false → b ≡ true → A
-never p e = absurd (clash e p)
 
 step-usual : (x : Answer) (a : ℕ) (old new : Table) → UsualAnswer x → UsualSlot (stepped x a old new .answer)
 step-usual Done a old new u = tt
@@ -95,6 +96,7 @@ kept-usual false = tt
 
 -- ---- one pair of a spare call
 
+-- "the first obsolete verdict gives yes"
 or-next : (v : Verdict) (next : Spared) → orNext Done v next ≡ cond (isObsolete v) Spare next
 or-next Equal next = refl
 or-next Obsolete next = refl
@@ -162,6 +164,7 @@ module _ (L : Limits) (n : ℕ) (some : 1 ≤ n) (few : n ≤ records) (w : Worl
 
   -- ---- Proposition 5.1
 
+  -- Y holds the events of S, and m covers what the names of S cover
   known-below : (a : ℕ) (S : List ℕ) (Y : Events) (m : Name) → Here a → AllPresent C S → 1 ≤ length S → ((e : ℕ) → In e Y ↔ Seen C S e)
       → ((r : Str) → (covered r m ≡ true) ↔ Covers C S r) → within (eventsAt w a) Y ≡ below (stampAt t a .update) m
   unfolding within
@@ -240,51 +243,46 @@ module _ (L : Limits) (n : ℕ) (some : 1 ≤ n) (few : n ≤ records) (w : Worl
 
   -- ---- 8, 9 and 12 never occur
 
+  no-slot : Usual NoSlot
+  no-slot = usual-by NoSlot (omega arith)
+
   one-slot-usual : (a : ℕ) (more : List (Bool × Refusal)) → (Here a → Usuals more) → Usuals (oneSlot L t a more)
-  one-slot-usual a more f =
-      (never size-fits, λ _.
-      (λ e. usual-by NoSlot (omega arith), λ e.
-      (never (fits a (is-not e)), λ _. f (is-not e))))
+  one-slot-usual a more f = never size-fits (gives no-slot λ p. never (fits a (is-not p)) (f (is-not p)))
 
   usual-update : (a : ℕ) → UsualSlot (updateAt L t a .answer)
   unfolding updateAt
-  usual-update a = step-usual (first (oneSlot L t a [])) a t _ (first-usual (oneSlot L t a []) (one-slot-usual a [] (λ _. tt)))
+  usual-update a = step-usual (first (oneSlot L t a [])) a t _ (first-usual (one-slot-usual a [] (λ _. end)))
 
   usual-fork : (a : ℕ) → UsualSlot (forkAt L t a .answer)
   unfolding forkAt
   usual-fork a =
-      let more : List (Bool × Refusal) = (full L t, Full) ∷ (long L (stampAt t a), Long) ∷ [] in
-      step-usual (first (oneSlot L t a more)) _ t _
-      (first-usual (oneSlot L t a more)
-      (one-slot-usual a more (λ _. (λ e. usual-by Full (omega arith), λ _. (λ e. usual-by Long (omega arith), λ _. tt)))))
+      step-usual (first (forkTests L t a)) _ t _
+      (first-usual
+      (one-slot-usual a ((full L t, Full) ∷ (long L (stampAt t a), Long) ∷ [])
+      (λ _. gives (usual-by Full (omega arith)) λ _. gives (usual-by Long (omega arith)) λ _. end)))
 
   usual-join : (a b : ℕ) → UsualSlot (joinAt L t a b .answer)
   unfolding joinAt
   usual-join a b =
       step-usual (first (joinTests L t a b)) a t _
-      (first-usual (joinTests L t a b)
-      (never size-fits, λ _.
-      (λ _. usual-by NoSlot (omega arith), λ p.
-      (λ _. usual-by NoSlot (omega arith), λ q.
-      (λ _. usual-by OneSlot (omega arith), λ e.
-      (never (fits a (is-not p)), λ _.
-      (never (fits b (is-not q)), λ _.
-      (never (overlap-none a b (is-not p) (is-not q) (eqb-false a b e)), λ _.
-      (never (unseen-none a b (is-not p) (is-not q)), λ _.
-      (λ _. usual-by Many (omega arith), λ _. tt))))))))))
+      (first-usual
+      (never size-fits
+      (gives no-slot λ p. gives no-slot λ q. gives (usual-by OneSlot (omega arith)) λ e.
+      let pa = is-not p in
+      let pb = is-not q in
+      never (fits a pa) (never (fits b pb)
+      (never (overlap-none a b pa pb (eqb-false a b e)) (never (unseen-none a b pa pb) (gives (usual-by Many (omega arith)) λ _. end)))))))
 
   usual-compare : (a b : ℕ) → UsualCompared (compareAt L t a b)
   unfolding compareAt
   usual-compare a b =
       told-usual (first (compareTests L t a b)) (compare (stampAt t a) (stampAt t b))
-      (first-usual (compareTests L t a b)
-      (never size-fits, λ _.
-      (λ _. usual-by NoSlot (omega arith), λ p.
-      (λ _. usual-by NoSlot (omega arith), λ q.
-      (never (fits a (is-not p)), λ _.
-      (never (fits b (is-not q)), λ _.
-      (never (overlap-tested a b (is-not p) (is-not q)), λ _.
-      (never (unseen-tested a b (is-not p) (is-not q)), λ _. tt))))))))
+      (first-usual
+      (never size-fits
+      (gives no-slot λ p. gives no-slot λ q.
+      let pa = is-not p in
+      let pb = is-not q in
+      never (fits a pa) (never (fits b pb) (never (overlap-tested a b pa pb) (never (unseen-tested a b pa pb) end))))))
 
   usual-spare : (a : ℕ) → UsualSpared (spareAt L t a)
   unfolding spareAt
@@ -292,7 +290,7 @@ module _ (L : Limits) (n : ℕ) (some : 1 ≤ n) (few : n ≤ records) (w : Worl
     where
       by : (x : Answer) → first (oneSlot L t a []) ≡ x → UsualSpared (spareAt L t a)
       by Done e = subst UsualSpared (sym (spares a (is-not (done-passed (oneSlot L t a []) e .1 .0)))) (kept-usual (isBehind L w a))
-      by (Refused r) e = rw e (rw e at (first-usual (oneSlot L t a []) (one-slot-usual a [] (λ _. tt))))
+      by (Refused r) e = rw e (rw e at (first-usual (one-slot-usual a [] (λ _. end))))
 
   pub good-right : Right L w
   good-right = record {

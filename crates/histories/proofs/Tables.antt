@@ -3,7 +3,6 @@
 use mathlib.Core.Path.{_≡_, refl, sym, ap, _∙_}
 use mathlib.Core.Bool.{Bool, true, false, cond, not, _&&_, _||_}
 use mathlib.Core.List.{List, [], _∷_}
-use mathlib.Core.Logic.{⊎-elim}
 use Prim.Native.Nat.{ℕ, zero, suc, _+_, _≤_, _<_}
 use native.Mathlib.Nat.{sub-zero}
 use native.Mathlib.Omega.{arith}
@@ -15,13 +14,13 @@ use Rattle.rules.specs.Limits.{Limits}
 use Rattle.rules.specs.Strings.{share, whole}
 use Rattle.rules.specs.Stamps.{Stamp, start, lawful, join, sumShares}
 use Rattle.rules.specs.Stored.{wordsOf, stored, strsIn, held, unlawful, blank, absent}
-use Rattle.rules.specs.Refusals.{first, many, overlap, unseen}
-use Rattle.rules.specs.Tables.{Table, outside, at, stampAt, badSize, noSlot, present, lowest}
+use Rattle.rules.specs.Refusals.{first, long, many, overlap, unseen}
+use Rattle.rules.specs.Tables.{Table, outside, at, stampAt, badSize, noSlot, present, lowest, full, oneSlot}
 use Rattle.rules.specs.Histories.{sumTable}
 use Rattle.rules.specs.Promises.{Usual}
 use Rattle.rules.specs.declared.Record.{Record}
 use Rattle.rules.specs.declared.Refusal.{Refusal}
-use Rattle.rules.specs.declared.Refusal.the-variants.{NoSlot, OneSlot, Many, Overlap, Unseen, Unfit}
+use Rattle.rules.specs.declared.Refusal.the-variants.{NoSlot, OneSlot, Full, Long, Many, Overlap, Unseen, Unfit}
 use Rattle.rules.specs.declared.Answer.{Answer}
 use Rattle.rules.specs.declared.Answer.the-variants.{Done, Refused}
 use Rattle.laws.proofs.Tests.{clash, not-true, is-not, not-is, or-right}
@@ -49,25 +48,30 @@ done-passed (t ∷ ts) e = by (t .0) refl e (λ h. done-passed ts h)
     by true p e ih = absurd (let z : _≡_ {A = ℕ} 0 1 = cc in omega arith)
     by false p e ih = (p, ih e)
 
--- a test that holds, where none before it does, has a number that such tables give
-abbrev pub Usuals : List (Bool × Refusal) → Type 0
-Usuals [] = Unit {0}
-Usuals (t ∷ ts) = (t .0 ≡ true → Usual (t .1)) × (t .0 ≡ false → Usuals ts)
+-- tests in their order: each never holds, or has a number that such a table gives
+pub data Usuals : List (Bool × Refusal) → Type 0 where
+  end : Usuals []
+  never : {b : Bool} {r : Refusal} {ts : List (Bool × Refusal)} → b ≡ false → Usuals ts → Usuals ((b, r) ∷ ts)
+  gives : {b : Bool} {r : Refusal} {ts : List (Bool × Refusal)} → Usual r → (b ≡ false → Usuals ts) → Usuals ((b, r) ∷ ts)
 
 abbrev pub UsualAnswer : Answer → Type 0
 UsualAnswer Done = Unit {0}
 UsualAnswer (Refused r) = Usual r
 
-pub first-usual : (ts : List (Bool × Refusal)) → Usuals ts → UsualAnswer (first ts)
+pub first-usual : {ts : List (Bool × Refusal)} → Usuals ts → UsualAnswer (first ts)
 unfolding first
-first-usual [] u = tt
-first-usual (t ∷ ts) u = by (t .0) refl (λ h. first-usual ts h)
+first-usual end = tt
+first-usual (never p u) = rw p (first-usual u)
+first-usual (gives {b} {r} {ts} n f) = by b refl (λ e. first-usual (f e))
   where
-    by : (b : Bool) → t .0 ≡ b → (Usuals ts → UsualAnswer (first ts)) → UsualAnswer (cond b (Refused (t .1)) (first ts))
-    by true e ih = u .0 e
-    by false e ih = ih (u .1 e)
+    by : (c : Bool) → b ≡ c → (b ≡ false → UsualAnswer (first ts)) → UsualAnswer (cond c (Refused r) (first ts))
+    by true e ih = n
+    by false e ih = ih e
 
--- the tests of a join and of a compare, in their order
+-- the tests of a fork, a join and a compare, in their order
+abbrev pub forkTests : Limits → Table → ℕ → List (Bool × Refusal)
+forkTests L t a = oneSlot L t a ((full L t, Full) ∷ (long L (stampAt t a), Long) ∷ [])
+
 abbrev pub joinTests : Limits → Table → ℕ → ℕ → List (Bool × Refusal)
 joinTests L t a b =
     (badSize t, Unfit)
@@ -94,7 +98,7 @@ compareTests L t a b =
 
 -- ---- stores
 
--- a list with v in place a
+-- the list with v in place a
 pub getD-put : {A : Type 0} (l : List A) (a : ℕ) (v d : A) (x : ℕ) → a < length l → getD (set l a v) x d ≡ put a v (λ y. getD l y d) x
 getD-put l a v d x h = by (is-where a x)
   where
@@ -102,8 +106,8 @@ getD-put l a v d x h = by (is-where a x)
     by (here p e) = rw (e, p) (getD-set-same l a v d h)
     by (there n e) = rw e (getD-set-other l a x v d n)
 
-pub put-map : {A B : Type 0} (f : A → B) (a : ℕ) (v : A) (g : ℕ → A) (x : ℕ) → f (put a v g x) ≡ put a (f v) (λ y. f (g y)) x
-put-map {B = B} f a v g x = by (is-where a x)
+put-map : {A B : Type 0} (f : A → B) (a : ℕ) (v : A) (g : ℕ → A) (x : ℕ) → f (put a v g x) ≡ put a (f v) (λ y. f (g y)) x
+put-map f a v g x = by (is-where a x)
   where
     by : Where a x → f (put a v g x) ≡ put a (f v) (λ y. f (g y)) x
     by (here p e) = rw e
@@ -119,6 +123,7 @@ put-self a v g x h = by (is-where a x)
 
 -- ---- slots
 
+-- a slot is present when the table has it and its record is not all zeros
 module _ (L : Limits) (t : Table) (a : ℕ) where
   pub present-size : present L t a ≡ true → a < length t
   unfolding noSlot
@@ -132,7 +137,7 @@ module _ (L : Limits) (t : Table) (a : ℕ) where
   unfolding noSlot
   present-by h = rw (lt-leb (length t) a h)
 
--- a record stored in slot a
+-- the table with a record stored in slot a
 module _ (L : Limits) (t : Table) (a : ℕ) (h : a < length t) where
   pub at-put : (r : Record) (x : ℕ) → at (set t a r) x ≡ put a r (at t) x
   at-put r x = getD-put t a r outside x h
@@ -145,11 +150,11 @@ module _ (L : Limits) (t : Table) (a : ℕ) (h : a < length t) where
       by (here p e) = rw (e, p, lt-leb (length t) a h) c
       by (there n e) = rw e
 
-  -- nothing
+  -- all zeros: no copy
   pub present-blank : (x : ℕ) → present L (set t a (blank L)) x ≡ put a false (present L t) x
   present-blank x = present-put (blank L) false x (rw (blank-absent L))
 
-  -- a lawful stamp
+  -- a lawful stamp: its copy
   module _ (s : Stamp) (l : lawful L s ≡ true) (x : ℕ) where
     pub present-stored : present L (set t a (stored L s)) x ≡ put a true (present L t) x
     present-stored = present-put (stored L s) true x (is-not (stored-present L s l))
@@ -202,7 +207,13 @@ unfolding sumTable
 sum-blank L most zero = refl
 sum-blank L most (suc n) = omega (arith, share-blank L most, sum-blank L most n)
 
--- and [e|e] has the whole
+-- a lawful stamp in the place of a record
+pub sum-stored : (L : Limits) → L .digits ≤ 58 → (most : ℕ) (t : Table) (a : ℕ) (s : Stamp) → a < length t → lawful L s ≡ true
+    → sumTable most (set t a (stored L s)) + shareOf most (at t a) ≡ sumTable most t + sumShares most (s .id)
+sum-stored L room most t a s h l =
+    sum-set most t a (stored L s) h ∙ ap (λ (x : Stamp). sumTable most t + sumShares most (x .id)) (held-stored L room s l)
+
+-- [e|e] has the whole
 pub share-start : (most : ℕ) → sumShares most (start .id) ≡ whole most
 unfolding sumShares share
 share-start most = rw sub-zero (omega arith)
