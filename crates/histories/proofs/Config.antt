@@ -97,18 +97,18 @@ pub record Reads (C D : Config) (old : ℕ → List ℕ) : Type 0 where
 pub in-one : {A : Type 0} (x y : A) → In y (x ∷ []) → y ≡ x
 in-one x y i = ⊎-elim (λ e. e) (λ h. absurd h) i
 
--- the old slots of a list of slots
-gather : (ℕ → List ℕ) → List ℕ → List ℕ
+-- the lists of some slots, one after the other: of old slots, or of events
+unfoldable pub gather : (ℕ → List ℕ) → List ℕ → List ℕ
 gather old [] = []
 gather old (x ∷ S) = old x ++ gather old S
 
-in-gather : (old : ℕ → List ℕ) (S : List ℕ) (x y : ℕ) → In x S → In y (old x) → In y (gather old S)
+pub in-gather : (old : ℕ → List ℕ) (S : List ℕ) (x y : ℕ) → In x S → In y (old x) → In y (gather old S)
 unfolding gather
 in-gather old [] x y i j = absurd i
 in-gather old (z ∷ S) x y i j =
     ⊎-elim (λ e. in-left y (old z) (gather old S) (subst (λ (w : ℕ). In y (old w)) e j)) (λ h. in-right y (old z) (gather old S) (in-gather old S x y h j)) i
 
-gather-in : (old : ℕ → List ℕ) (S : List ℕ) (y : ℕ) → In y (gather old S) → Among S (λ x. In y (old x))
+pub gather-in : (old : ℕ → List ℕ) (S : List ℕ) (y : ℕ) → In y (gather old S) → Among S (λ x. In y (old x))
 unfolding gather
 gather-in old [] y i = absurd i
 gather-in old (z ∷ S) y i =
