@@ -18,7 +18,8 @@ use Rattle.rules.specs.declared.Record.{Record}
 use Rattle.laws.proofs.Tests.{clash, not-true, not-is}
 use Rattle.laws.proofs.Lawful.{lawful-start}
 use Rattle.laws.proofs.Stored.{is-stored, blank-absent}
-use Rattle.histories.proofs.Config.{Config, put, Where, here, there, is-where, Sound, sound-same, initial, sound-start}
+use Rattle.histories.specs.Configurations.{Config, Sound, initial, put}
+use Rattle.histories.proofs.Config.{Where, here, there, is-where, sound-same, sound-start}
 use Rattle.histories.proofs.Tables.{present-size, present-there, at-put, present-stored, stamp-stored, shareOf, share-blank, sum-blank, sum-stored, share-start}
 
 -- what the slots hold, with no limits

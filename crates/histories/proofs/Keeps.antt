@@ -24,10 +24,11 @@ use Rattle.laws.proofs.Union.{union-top}
 use Rattle.laws.proofs.Lawful.{lawful-parts, lawful-proper, lawful-update, lawful-fork, lawful-join, unite-proper}
 use Rattle.laws.proofs.Shares.{shares-append, shares-union, shares-reduce}
 use Rattle.laws.proofs.Stored.{stored-lawful, absent-is}
-use Rattle.histories.proofs.Config.{Config, put, sound-same}
-use Rattle.histories.proofs.Update.{updated, update-sound}
-use Rattle.histories.proofs.Fork.{forked, fork-sound}
-use Rattle.histories.proofs.Join.{joined, join-sound}
+use Rattle.histories.specs.Configurations.{Config, forked, joined, put, updated}
+use Rattle.histories.proofs.Config.{sound-same}
+use Rattle.histories.proofs.Update.{update-sound}
+use Rattle.histories.proofs.Fork.{fork-sound}
+use Rattle.histories.proofs.Join.{join-sound}
 use Rattle.histories.proofs.Tables.{forkTests, joinTests, done-passed, getD-put, put-self, present-size, present-there, present-blank, present-stored}
 use Rattle.histories.proofs.Tables.{stamp-stored, lowest-absent, lowest-size, shareOf, sum-set, sum-stored, share-blank}
 use Rattle.histories.proofs.Good.{configOf, Good, shaped-stored, shaped-blank}

@@ -34,7 +34,8 @@ use Rattle.laws.proofs.Tests.{clash, not-true, iff, and-left, and-right, is-not
 use Rattle.laws.proofs.Below.{member-in, covered-some, below-each, each-below}
 use Rattle.laws.proofs.Union.{covered-unions}
 use Rattle.laws.proofs.Stored.{stored-not-unlawful}
-use Rattle.histories.proofs.Config.{Config, Among, Seen, Covers, AllPresent, in-one, gather, in-gather, gather-in}
+use Rattle.histories.specs.Configurations.{AllPresent, Among, Config, Covers, Seen}
+use Rattle.histories.proofs.Config.{in-one, gather, in-gather, gather-in}
 use Rattle.histories.proofs.Tables.{forkTests, joinTests, compareTests, passed-done, done-passed, Usuals, end, never, gives, UsualAnswer, first-usual, present-by}
 use Rattle.histories.proofs.Good.{configOf, Good}
 

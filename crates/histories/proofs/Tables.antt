@@ -25,7 +25,8 @@ use Rattle.rules.specs.declared.Answer.{Answer}
 use Rattle.rules.specs.declared.Answer.the-variants.{Done, Refused}
 use Rattle.laws.proofs.Tests.{clash, not-true, is-not, not-is, or-right}
 use Rattle.laws.proofs.Stored.{held-stored, stored-present, blank-absent}
-use Rattle.histories.proofs.Config.{put, Where, here, there, is-where}
+use Rattle.histories.specs.Configurations.{put}
+use Rattle.histories.proofs.Config.{Where, here, there, is-where}
 
 -- ---- answers
 
