@@ -11,13 +11,14 @@ ghost use Rattle.rules.specs.Names.{union};
 ghost use Rattle.rules.specs.Stamps.{reduce, join};
 ghost use Rattle.rules.specs.Stored.{blank, held, isStored, isStoredName, strsIn};
 ghost use Rattle.rules.specs.Refusals.{first, many};
-ghost use Rattle.rules.specs.Values.{given};
+ghost use Rattle.rules.specs.Values.{given, joined};
 ghost use Rattle.rules.specs.declared.Refusal.the-variants.{Many};
 ghost use Rattle.rules.specs.declared.Answer.the-variants.{Refused};
 ghost use Rattle.joins.specs.Passes.{opt, turnOf, addedTurn, settledTurn, passW, front, wide};
 ghost use Rattle.joins.specs.Working.{foundW, stepped, words, wideOf, bothOf, stampIn, Ready};
 use rules::{Answer, Given, Record, Refusal, Words};
 use names::STRINGS;
+use stamps::meet;
 use strings::are_siblings;
 use strings::is_prefix;
 
@@ -45,6 +46,17 @@ struct Both {
     more: bool,
     update: Wide,
     id: Wide,
+}
+
+// The unions of both update names and of both ids, then reduction; all zeros where the two may not meet or the reduced id has too many strings.
+pub fn join(a: Record, b: Record) -> Given
+    ensures { λ g. ⌜ g ≡ joined narrow a b ⌝ }
+{
+    let m = meet(a, b);
+    match m {
+        Answer::Refused(r) => refused(r),
+        Answer::Done => merged(a, b),
+    }
 }
 
 // At t, when s is added: a string is not kept beside one that it is a prefix of.
