@@ -1,9 +1,9 @@
 -- Strings added one by one to a rising name make the document's union: the name still rises, it gains nothing else, and what is lost
 -- is a prefix of something that stays. Assumes nothing.
 use mathlib.Core.Path.{_≡_, refl, sym, ap, _∙_, subst}
-use mathlib.Core.Bool.{Bool, true, false, not}
+use mathlib.Core.Bool.{Bool, true, false}
 use mathlib.Core.List.{List, [], _∷_, _++_, map}
-use mathlib.Core.Logic.{_⊎_, inl, inr, ⊎-elim}
+use mathlib.Core.Logic.{inl, inr, ⊎-elim}
 use Prim.Native.Nat.{ℕ, _≤_}
 use lib.ListN.{length}
 use Rattle.rules.specs.Strings.{Str, prefix, less, wordOf}
@@ -11,7 +11,7 @@ use Rattle.rules.specs.Names.{Name, rising, union}
 use Rattle.laws.proofs.Tests.{In, in-left, in-right, in-append, Some}
 use Rattle.laws.proofs.Prefix.{prefix-refl, prefix-trans, prefix-antisym}
 use Rattle.laws.proofs.Rising.{less-trans, less-total, rising-head, rising-tail, rising-cons, rising-antichain, rising-unique}
-use Rattle.laws.proofs.Union.{Top, union-top, top-union, union-rising}
+use Rattle.laws.proofs.Union.{union-top, top-union, union-rising}
 use Rattle.laws.proofs.Lawful.{Short}
 use Rattle.joins.specs.Passes.{passBy, passW}
 use Rattle.joins.proofs.Strings.{turnS, passS, pass-words}
@@ -141,9 +141,9 @@ adding-is-union m n h =
           prefix-antisym x t p (subst (λ (y : Str). prefix t y ≡ true) (sym e) (o .passes));
     })
     (λ x i.
-      let t = union-top m n x i in
-      let o = over-all m n x (t .inside) in
-      subst (λ (y : Str). In y (addAll m n)) (sym (t .alone (o .one) (all-in m n (o .one) (o .inside)) (o .passes))) (o .inside))
+    let t = union-top m n x i in
+    let o = over-all m n x (t .inside) in
+    subst (λ (y : Str). In y (addAll m n)) (sym (t .alone (o .one) (all-in m n (o .one) (o .inside)) (o .passes))) (o .inside))
   where
     r : rising (addAll m n) ≡ true
     r = all-rising m n h

@@ -1,19 +1,19 @@
 -- The first two neighbours that differ in the last digit only: on words as the loop meets them, and that in a rising name they are what `pair` finds.
 -- Assumes nothing.
-use mathlib.Core.Path.{_≡_, refl, sym, ap, ap₂, _∙_, subst}
-use mathlib.Core.Bool.{Bool, true, false, cond, _&&_}
+use mathlib.Core.Path.{_≡_, refl, sym, ap, ap₂, _∙_}
+use mathlib.Core.Bool.{Bool, true, false, cond}
 use mathlib.Core.List.{List, [], _∷_, map, dropLast}
 use mathlib.Core.Logic.{inl, inr}
 use mathlib.Core.Option.{Option, none, some}
-use Prim.Native.Nat.{ℕ, zero, suc, _+_, _*_, _-_, _%_, _^_, _≤_, _<_}
+use Prim.Native.Nat.{ℕ, zero, suc, _+_, _-_, _≤_, _<_}
 use native.Mathlib.Omega.{arith}
 use borrow.Author.Tests.{eqb-true}
 use lib.Dec.{eqb}
 use lib.ListN.{length, getD}
-use Rattle.rules.specs.Strings.{Str, less, siblings, common, _▹_, digit, wordOf, strOf}
+use Rattle.rules.specs.Strings.{Str, siblings, common, _▹_, wordOf, strOf}
 use Rattle.rules.specs.Names.{Name, rising}
 use Rattle.rules.specs.Stamps.{pair}
-use Rattle.laws.proofs.Tests.{and-right, In}
+use Rattle.laws.proofs.Tests.{and-right}
 use Rattle.laws.proofs.Rising.{rising-head, rising-tail}
 use Rattle.laws.proofs.Settle.{drop-grown}
 use Rattle.laws.proofs.Pairs.{firstTwins, siblings-twins, neighbour-pair}
@@ -23,7 +23,7 @@ use Rattle.joins.specs.declared.Found.{Found}
 use Rattle.joins.specs.declared.Found.the-variants.{At, Nothing}
 use Rattle.joins.specs.Passes.{run}
 use Rattle.joins.specs.Working.{foundW}
-use Rattle.joins.proofs.Passes.{run-more, run-end}
+use Rattle.joins.proofs.Passes.{run-more}
 use Rattle.joins.proofs.Strings.{grown-length}
 
 -- a string that has a sibling has a digit
@@ -87,6 +87,7 @@ found-twins (s ∷ t ∷ n) h k =
         ap (λ (x : Str). wordOf x - 1) (w .left)
         ∙ word-root (w .root) (omega (arith, grown-length (w .root) false, ap length (w .left), k s (inl refl)))
         ∙ ap wordOf (sym (ap dropLast (w .left) ∙ drop-grown (w .root) false))
+
     by : (b : Bool) → siblings s t ≡ b → foundW (map wordOf (t ∷ n)) ≡ foundOf (firstTwins (t ∷ n))
         → cond b (At (wordOf s - 1)) (foundW (map wordOf (t ∷ n))) ≡ foundOf (cond (siblings s t) (some (dropLast s)) (firstTwins (t ∷ n)))
     by true e ih = ap At (root e) ∙ simp e

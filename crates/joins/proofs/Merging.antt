@@ -1,18 +1,16 @@
 -- Two lawful stamps merged: their unions are ready for reduction, and what reduction leaves is the join, stored where its id has no more
 -- strings than a name has. Assumes nothing.
-use mathlib.Core.Path.{_≡_, refl, sym, ap, ap₂, _∙_, subst}
+use mathlib.Core.Path.{_≡_, sym, ap, _∙_, subst}
 use mathlib.Core.Bool.{Bool, true, false, cond}
-use mathlib.Core.List.{List, [], _∷_, _++_, map}
+use mathlib.Core.List.{[], _∷_, _++_}
 use mathlib.Core.Logic.{⊎-elim}
 use Prim.Native.Nat.{ℕ, _+_, _≤_, _<_}
 use native.Mathlib.Nat.{le-trans}
 use native.Mathlib.Omega.{arith}
 use borrow.Author.Tests.{lt-ltb, le-ltb}
-use lib.Dec.{ltb}
 use lib.ListN.{length, length-append}
 use Rattle.rules.specs.Limits.{narrow}
-use Rattle.rules.specs.Strings.{Str, wordOf}
-use Rattle.rules.specs.Names.{Name, rising, isName, union}
+use Rattle.rules.specs.Names.{Name, union}
 use Rattle.rules.specs.Stamps.{Stamp, reduce, unite, join}
 use Rattle.rules.specs.Stored.{wordsOf, stored, strsIn, held, sameWords, isStoredName, isStored, blank}
 use Rattle.rules.specs.Refusals.{first, many}
@@ -22,12 +20,11 @@ use Rattle.rules.specs.declared.Record.{Record}
 use Rattle.rules.specs.declared.Given.{Given}
 use Rattle.rules.specs.declared.Refusal.the-variants.{Many}
 use Rattle.rules.specs.declared.Answer.the-variants.{Done, Refused}
-use Rattle.laws.proofs.Tests.{and-both, In, in-append}
-use Rattle.laws.proofs.Union.{Top, union-top, union-rising}
-use Rattle.laws.proofs.Steps.{Proper}
+use Rattle.laws.proofs.Tests.{and-both, in-append}
+use Rattle.laws.proofs.Union.{union-top, union-rising}
 use Rattle.laws.proofs.Reduce.{reduce-proper}
 use Rattle.laws.proofs.Counts.{count-below, count-within}
-use Rattle.laws.proofs.Lawful.{Short, Named, parts-name, Lawful, lawful-parts, lawful-proper, unite-proper}
+use Rattle.laws.proofs.Lawful.{Short, parts-name, Lawful, lawful-parts, lawful-proper, unite-proper}
 use Rattle.laws.proofs.Stored.{words-refl, stored-lawful, stored-is}
 use Rattle.joins.specs.declared.Wide.{Wide}
 use Rattle.joins.specs.declared.Both.{Both}
@@ -47,8 +44,7 @@ module _ (r : Record) (h : isStored narrow r ≡ true) where
   stored-names =
       let e = stored-is narrow r h in
       let same : (w : Words) → w ≡ wordsOf narrow (strsIn w) → sameWords w (wordsOf narrow (strsIn w)) ≡ true =
-      λ w p. subst (λ (v : Words). sameWords w v ≡ true) p (words-refl w) in
-      (
+      λ w p. subst (λ (v : Words). sameWords w v ≡ true) p (words-refl w) in (
         and-both (parts-name narrow (strsIn (r .update)) (lawful-named .updateNamed)) (same (r .update) (ap (λ (x : Record). x .update) e)),
         and-both (parts-name narrow (strsIn (r .id)) (lawful-named .idNamed)) (same (r .id) (ap (λ (x : Record). x .id) e)),
       )

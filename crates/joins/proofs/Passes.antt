@@ -6,7 +6,7 @@ use Prim.Native.Nat.{ℕ, zero, suc, _+_, _-_, _≤_, _<_}
 use native.Mathlib.Numerals.{add-one}
 use native.Mathlib.Omega.{arith}
 use lib.Dec.{ltb}
-use lib.ListN.{length, getD, set, replicate, take, drop, length-append, length-replicate}
+use lib.ListN.{length, getD, set, replicate, drop, length-append, length-replicate}
 use lib.Seq.{sets, sets-eq, getD-append-seam}
 use Rattle.rules.specs.Strings.{digit}
 use Rattle.joins.specs.declared.Turn.{Turn}
@@ -113,8 +113,7 @@ pass-room a s p [] = omega (arith, opt-length (a && not p) s)
 pass-room a s p (t ∷ l) =
     let d : Turn = turnOf a s t p in
     let more = opt (d .keep) t ++ passBy (turnOf a s) a s (d .placed) l in
-    omega
-    (
+    omega (
       arith,
       length-append (opt (d .first) s) more,
       length-append (opt (d .keep) t) (passBy (turnOf a s) a s (d .placed) l),

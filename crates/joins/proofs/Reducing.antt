@@ -1,10 +1,10 @@
 -- A step on working names is a step of reduction: it finds what `pair` finds, settles both names, and leaves the same end ahead.
 -- Assumes nothing.
-use mathlib.Core.Path.{_≡_, refl, sym, ap, ap₂, _∙_, subst}
+use mathlib.Core.Path.{_≡_, refl, ap, _∙_}
 use mathlib.Core.Bool.{Bool, true, false}
-use mathlib.Core.List.{List, [], _∷_, map}
+use mathlib.Core.List.{map}
 use mathlib.Core.Option.{Option, none, some}
-use Prim.Native.Nat.{ℕ, suc, _+_, _≤_, _<_}
+use Prim.Native.Nat.{suc, _≤_}
 use native.Mathlib.Nat.{le-trans}
 use native.Mathlib.Omega.{arith}
 use lib.ListN.{length}
@@ -13,13 +13,12 @@ use Rattle.rules.specs.Names.{Name, rising}
 use Rattle.rules.specs.Stamps.{Stamp, pair, settle, settled, reduce}
 use Rattle.laws.proofs.Tests.{In}
 use Rattle.laws.proofs.Settle.{pair-in}
-use Rattle.laws.proofs.Steps.{Proper, settled-proper, settled-shorter}
+use Rattle.laws.proofs.Steps.{settled-proper, settled-shorter}
 use Rattle.laws.proofs.Reduce.{reduce-settled}
 use Rattle.laws.proofs.Shares.{settle-short}
 use Rattle.laws.proofs.Counts.{count-below}
 use Rattle.laws.proofs.Lawful.{Short}
 use Rattle.joins.specs.declared.Both.{Both}
-use Rattle.joins.specs.declared.Wide.{Wide}
 use Rattle.joins.specs.declared.Found.{Found}
 use Rattle.joins.specs.declared.Found.the-variants.{At, Nothing}
 use Rattle.joins.specs.Passes.{front, wide, passW}

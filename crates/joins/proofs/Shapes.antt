@@ -1,9 +1,9 @@
 -- Names, their records and working names: each holds the words of its strings, and tells them. Assumes nothing.
 use mathlib.Core.Path.{_≡_, refl, sym, ap, ap₂, _∙_}
-use mathlib.Core.Bool.{Bool, true, false}
+use mathlib.Core.Bool.{true}
 use mathlib.Core.List.{List, [], _∷_, _++_, map}
 use mathlib.Core.Logic.{inl, inr}
-use Prim.Native.Nat.{ℕ, _-_, _≤_, _<_}
+use Prim.Native.Nat.{ℕ, _-_, _≤_}
 use native.Mathlib.Omega.{arith}
 use lib.ListN.{length, replicate, length-map}
 use Rattle.rules.specs.Limits.{narrow}
@@ -14,8 +14,7 @@ use Rattle.rules.specs.declared.Words.{Words}
 use Rattle.laws.proofs.Words.{str-word}
 use Rattle.laws.proofs.Lawful.{Short, Named, name-parts}
 use Rattle.laws.proofs.Stored.{stored-name, stored-name-is}
-use Rattle.joins.specs.declared.Wide.{Wide}
-use Rattle.joins.specs.Passes.{run, front, wide}
+use Rattle.joins.specs.Passes.{front}
 use Rattle.joins.specs.Working.{words, wideOf, strs}
 use Rattle.joins.proofs.Passes.{front-append, front-wide, sets-zeros}
 

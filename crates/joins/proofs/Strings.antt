@@ -1,21 +1,21 @@
 -- The passes on strings, and that a pass over words is the pass over their strings. Assumes nothing.
-use mathlib.Core.Path.{_≡_, refl, sym, ap, ap₂, _∙_, subst}
+use mathlib.Core.Path.{_≡_, refl, sym, ap, ap₂, _∙_}
 use mathlib.Core.Bool.{Bool, true, false, cond, not, _&&_, _||_}
 use mathlib.Core.List.{List, [], _∷_, _++_, map}
-use mathlib.Core.Logic.{_⊎_, inl, inr, ⊎-elim}
-use Prim.Native.Nat.{ℕ, suc, _+_, _%_, _≤_, _<_}
+use mathlib.Core.Logic.{inl, inr, ⊎-elim}
+use Prim.Native.Nat.{ℕ, _+_, _≤_}
 use native.Mathlib.Omega.{arith}
 use borrow.Author.Tests.{eqb-true, eq-eqb}
 use lib.Dec.{eqb, ltb}
 use lib.ListN.{length, length-append}
-use Rattle.rules.specs.Strings.{Str, prefix, same, less, _▹_, wordOf, strOf}
+use Rattle.rules.specs.Strings.{Str, prefix, same, less, _▹_, wordOf}
 use Rattle.rules.specs.Names.{Name}
-use Rattle.laws.proofs.Tests.{no, iff, and-left, and-right, and-both, or-cases, or-left, or-right, In}
+use Rattle.laws.proofs.Tests.{iff, and-left, and-right, and-both, or-cases, or-left, or-right}
 use Rattle.laws.proofs.Prefix.{prefix-goes-on, prefix-grown, prefix-whole, same-is, is-same}
 use Rattle.laws.proofs.Words.{str-word, word-lt, word-length, less-words}
 use Rattle.laws.proofs.Lawful.{Short}
 use Rattle.joins.specs.declared.Turn.{Turn}
-use Rattle.joins.specs.Passes.{opt, addedBy, settledBy, prefixW, grownW, addedTurn, settledTurn, turnOf, passBy, passW}
+use Rattle.joins.specs.Passes.{opt, addedBy, settledBy, prefixW, addedTurn, settledTurn, turnOf, passBy}
 
 -- t is s0 or s1
 abbrev pub isGrown : Str → Str → Bool
@@ -35,12 +35,12 @@ grown-test : (s t : Str) → (prefix s t && eqb (length t) (length s + 1)) ≡ i
 grown-test s t =
     iff
     (λ h.
-      let p = and-left (prefix s t) (eqb (length t) (length s + 1)) h in
-      let e = eqb-true (length t) (length s + 1) (and-right (prefix s t) (eqb (length t) (length s + 1)) h) in
-      ⊎-elim (λ k. absurd (omega (arith, ap length k)))
-      (λ k. ⊎-elim (λ z. or-left (same (s ▹ true) t) (is-same (prefix-whole (s ▹ false) t z (omega (arith, grown-length s false)))))
-      (λ z. or-right (same (s ▹ false) t) (is-same (prefix-whole (s ▹ true) t z (omega (arith, grown-length s true))))) k)
-      (prefix-goes-on s t p))
+    let p = and-left (prefix s t) (eqb (length t) (length s + 1)) h in
+    let e = eqb-true (length t) (length s + 1) (and-right (prefix s t) (eqb (length t) (length s + 1)) h) in
+    ⊎-elim (λ k. absurd (omega (arith, ap length k)))
+    (λ k. ⊎-elim (λ z. or-left (same (s ▹ true) t) (is-same (prefix-whole (s ▹ false) t z (omega (arith, grown-length s false)))))
+    (λ z. or-right (same (s ▹ false) t) (is-same (prefix-whole (s ▹ true) t z (omega (arith, grown-length s true))))) k)
+    (prefix-goes-on s t p))
     (λ h. ⊎-elim (λ k. back false k) (λ k. back true k) (or-cases (same (s ▹ false) t) (same (s ▹ true) t) h))
   where
     back : (d : Bool) → same (s ▹ d) t ≡ true → (prefix s t && eqb (length t) (length s + 1)) ≡ true

@@ -1,5 +1,5 @@
 -- `joins::added` meets its contract: each way out is one clause of `addedBy`. Assumes nothing.
-use mathlib.Core.Path.{_≡_, sym, _∙_}
+use mathlib.Core.Path.{sym, _∙_}
 use borrow.Author.Needs.{needs}
 use borrow.Author.Tests.{lt-ltb, le-ltb}
 use Rattle.joins.specs.Passes.{addedTurn}

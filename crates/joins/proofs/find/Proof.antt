@@ -1,6 +1,6 @@
 -- `joins::find` meets its contract: the neighbours before index i are no siblings, so what is found from i on is what is found in all. Assumes nothing.
-use mathlib.Core.Path.{_≡_, refl, sym, ap, _∙_}
-use Prim.Native.Nat.{ℕ, _+_, _-_, _≤_, _<_}
+use mathlib.Core.Path.{_≡_, sym, ap, _∙_}
+use Prim.Native.Nat.{_+_, _-_, _≤_}
 use native.Mathlib.Omega.{arith}
 use borrow.Author.Needs.{needs}
 use lib.ListN.{getD}
@@ -62,8 +62,7 @@ loop-less c = search needs
 loop-again : tie.Need-loop-again Inv-loop μ-loop
 loop-again c =
     let l = c .before .before .before .before .before in
-    let g = l .before .args .t1 in
-    (
+    let g = l .before .args .t1 in (
       search needs,
       sym (found-more (g .words) (l .loop .i) (g .count) (omega arith) (sym (c .before .are-siblings .ensures) ∙ c .if1 .left)) ∙ l .loop .inv .1,
     )

@@ -1,7 +1,7 @@
 -- `joins::pass` meets its contract: what is written, with a pass over the words from index i on, is the pass over all. Assumes nothing.
 use mathlib.Core.Path.{_≡_, refl, sym, ap, _∙_}
-use mathlib.Core.Bool.{Bool, true, false, not, _&&_}
-use mathlib.Core.List.{List, [], _∷_}
+use mathlib.Core.Bool.{Bool, not, _&&_}
+use mathlib.Core.List.{List, _∷_}
 use Prim.Native.Nat.{ℕ, _+_, _-_, _≤_, _<_}
 use native.Mathlib.Omega.{arith}
 use borrow.Author.Needs.{needs}
@@ -10,7 +10,7 @@ use lib.Seq.{sets}
 use Rattle.rules.specs.Strings.{digit}
 use Rattle.joins.specs.declared.Wide.{Wide}
 use Rattle.joins.specs.declared.Turn.{Turn}
-use Rattle.joins.specs.Passes.{opt, turnOf, passW, front, run, wide}
+use Rattle.joins.specs.Passes.{opt, turnOf, passW, front, run}
 use Rattle.joins.proofs.Passes.{opt-length, rest, turn-fits, turn-count, turn-words, pass-end, pass-length, run-more, run-end, run-start, run-length, wide-is}
 use Rattle.joins.proofs.pass.Statement.{statement}
 use Rattle.joins.proofs.pass.Tie as tie
@@ -104,14 +104,13 @@ loop-again c =
     let k₁ = b .push .result .count in
     let k₂ = c .push2 .result .count in
     let e₁ = b .push .ensures .0 in
-    let e₂ = c .push2 .ensures .0 in
-    (
+    let e₂ = c .push2 .ensures .0 in (
       search needs,
       turn-count (adding l) (s l) (t l) (l .loop .placed) (tail l) d (a .turned .ensures) k k₁ k₂ e₁ e₂
-      ∙ ap (λ (x : List ℕ). k + length x) (sym (more l (omega arith))) ∙ l .loop .inv .1,
+          ∙ ap (λ (x : List ℕ). k + length x) (sym (more l (omega arith))) ∙ l .loop .inv .1,
       turn-words (adding l) (s l) (t l) (l .loop .placed) (tail l) d (a .turned .ensures) k k₁ k₂ e₁ e₂ (out l .words) (b .push .result .words) (c .push2 .result .words)
-      (b .push .ensures .1) (c .push2 .ensures .1)
-      ∙ ap (sets (out l .words) k) (sym (more l (omega arith))) ∙ l .loop .inv .2,
+          (b .push .ensures .1) (c .push2 .ensures .1)
+          ∙ ap (sets (out l .words) k) (sym (more l (omega arith))) ∙ l .loop .inv .2,
     )
 
 push-requires-3 : tie.Need-push-requires-3 Inv-loop μ-loop

@@ -1,5 +1,5 @@
 -- `joins::refused` meets its contract: the zeros compute. Assumes nothing.
-use mathlib.Core.Path.{_≡_, refl}
+use mathlib.Core.Path.{refl}
 use Rattle.rules.specs.Stored.{blank, stored, wordsOf}
 use Rattle.joins.proofs.refused.Statement.{statement}
 use Rattle.joins.proofs.refused.Tie as tie

@@ -1,5 +1,5 @@
 -- `joins::settled` meets its contract: each way out is one clause of `settledBy`. Assumes nothing.
-use mathlib.Core.Path.{_≡_, sym, _∙_}
+use mathlib.Core.Path.{sym, _∙_}
 use borrow.Author.Needs.{needs}
 use borrow.Author.Tests.{eq-eqb, ne-eqb}
 use Rattle.joins.specs.Passes.{settledTurn}

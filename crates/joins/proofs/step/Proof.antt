@@ -1,10 +1,7 @@
 -- `joins::step` meets its contract: each way out is one clause of `steppedBy`. Assumes nothing.
-use mathlib.Core.Path.{_≡_, refl, sym, ap, _∙_}
-use mathlib.Core.Bool.{true}
+use mathlib.Core.Path.{sym, _∙_}
 use borrow.Author.Needs.{needs}
-use Rattle.joins.specs.declared.Found.{Found}
-use Rattle.joins.specs.declared.Both.{Both}
-use Rattle.joins.specs.Working.{stepped, steppedBy, foundW}
+use Rattle.joins.specs.Working.{stepped}
 use Rattle.joins.proofs.step.Statement.{statement}
 use Rattle.joins.proofs.step.Tie as tie
 
@@ -25,11 +22,7 @@ enum-told c = search needs
 
 returns : tie.Need-returns
 unfolding stepped
-returns c =
-    let f = c .before .before .before in
-    let p = c .before .pass .ensures in
-    let q = c .pass2 .ensures in
-    rw (sym (f .before .before .find .ensures) ∙ f .f .given .1) (λ i. record { more = true; update = p i; id = q i })
+returns c = let f = c .before .before .before in rw (sym (f .before .before .find .ensures) ∙ f .f .given .1, c .before .pass .ensures, c .pass2 .ensures)
 
 returns-2 : tie.Need-returns-2
 unfolding stepped

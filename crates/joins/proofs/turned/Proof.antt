@@ -1,5 +1,4 @@
 -- `joins::turned` meets its contract. Assumes nothing.
-use mathlib.Core.Path.{_≡_}
 use borrow.Author.Needs.{needs}
 use Rattle.joins.specs.Passes.{turnOf}
 use Rattle.joins.proofs.turned.Statement.{statement}

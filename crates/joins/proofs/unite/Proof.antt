@@ -1,14 +1,13 @@
 -- `joins::unite` meets its contract: the strings from index i on, added to what is there, are all of them added; and that is the union. Assumes nothing.
-use mathlib.Core.Path.{_≡_, refl, sym, ap, ap₂, _∙_}
+use mathlib.Core.Path.{_≡_, sym, ap, ap₂, _∙_}
 use mathlib.Core.Bool.{true}
-use mathlib.Core.List.{List, [], _∷_, map}
+use mathlib.Core.List.{List}
 use Prim.Native.Nat.{ℕ, _+_, _-_, _≤_, _<_}
 use native.Mathlib.Nat.{le-trans}
 use native.Mathlib.Omega.{arith}
 use borrow.Author.Needs.{needs}
 use lib.ListN.{length, getD}
 use Rattle.rules.specs.Limits.{narrow}
-use Rattle.rules.specs.Strings.{Str, wordOf}
 use Rattle.rules.specs.Names.{union}
 use Rattle.rules.specs.Stored.{strsIn, isStoredName}
 use Rattle.rules.specs.declared.Words.{Words}
@@ -58,8 +57,7 @@ loop-holds c =
     let g = c .before in
     let n = g .args .n in
     let few = stored-few n (g .pre .1) in
-    let f = made (c .widen .result) (front (n .words) (n .count)) (omega (arith, run-length (n .words) 0 (n .count))) (c .widen .ensures) in
-    (
+    let f = made (c .widen .result) (front (n .words) (n .count)) (omega (arith, run-length (n .words) 0 (n .count))) (c .widen .ensures) in (
       search needs,
       stored-few (g .args .t1) (g .pre .0),
       omega (arith, f .0, run-length (n .words) 0 (n .count)),
@@ -90,8 +88,7 @@ loop-again c =
     let s = getD (m .words) (l .loop .i) 0 in
     let k = pass-length true s (held a) in
     let j = run-length (a .words) 0 (a .count) in
-    let f = made (c .pass .result) (passW true s (held a)) (omega (arith, k, j)) (c .pass .ensures) in
-    (
+    let f = made (c .pass .result) (passW true s (held a)) (omega (arith, k, j)) (c .pass .ensures) in (
       search needs,
       search needs,
       omega (arith, f .0, k, j),

@@ -1,10 +1,9 @@
 -- `joins::widen` meets its contract: the words copied, with those from index i on, are all the words. Assumes nothing.
 use mathlib.Core.Path.{_≡_, refl, sym, ap, _∙_}
-use mathlib.Core.List.{List}
-use Prim.Native.Nat.{ℕ, _+_, _-_, _≤_, _<_}
+use Prim.Native.Nat.{_-_, _≤_}
 use native.Mathlib.Omega.{arith}
 use borrow.Author.Needs.{needs}
-use lib.ListN.{length, replicate}
+use lib.ListN.{replicate}
 use lib.Seq.{sets}
 use Rattle.joins.specs.Passes.{run, front}
 use Rattle.joins.proofs.Passes.{run-start, run-length, copy-more, copy-end}
