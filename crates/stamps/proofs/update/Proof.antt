@@ -1,7 +1,7 @@
 -- `stamps::update` meets its contract: a stored id is its own stored shape. Assumes nothing.
 use borrow.Author.Needs.{needs}
-use mathlib.Core.Path.{_≡_, refl, sym, ap, _∙_}
-use mathlib.Core.Bool.{Bool, true, false}
+use mathlib.Core.Path.{_≡_, sym, ap, _∙_}
+use mathlib.Core.Bool.{true, false}
 use Rattle.rules.specs.Limits.{Limits, narrow}
 use Rattle.rules.specs.Stamps.{update}
 use Rattle.rules.specs.Stored.{stored, held, isStored, unlawful, blank}
