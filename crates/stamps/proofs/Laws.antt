@@ -24,8 +24,8 @@ use Rattle.laws.proofs.Words.{word-length, word-lt, word-grown}
 use Rattle.laws.proofs.Shares.{grown-length}
 use Rattle.laws.proofs.Fork.{append-length}
 use Rattle.laws.proofs.Lawful.{Named, name-parts}
+use Rattle.laws.proofs.Stored.{stored-name, stored-name-is}
 use Rattle.names.proofs.Laws.{strs-cons, strs-end}
-use Rattle.names.proofs.Shape.{stored-name, stored-name-is}
 
 -- ---- a stored record
 

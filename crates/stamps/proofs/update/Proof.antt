@@ -12,8 +12,7 @@ use Rattle.rules.specs.declared.Record.{Record}
 use Rattle.rules.specs.declared.Given.{Given}
 use Rattle.rules.specs.declared.Refusal.the-variants.{Unlawful}
 use Rattle.rules.specs.declared.Answer.the-variants.{Done, Refused}
-use Rattle.names.proofs.Shape.{stored-name-is}
-use Rattle.stamps.proofs.Laws.{stored-names}
+use Rattle.laws.proofs.Stored.{stored-is}
 use Rattle.stamps.proofs.update.Statement.{statement}
 use Rattle.stamps.proofs.update.Tie as tie
 
@@ -22,7 +21,7 @@ given i = record { answer = Done; stamp = record { update = i; id = i } }
 
 done : (L : Limits) (r : Record) → isStored L r ≡ true → given (r .id) ≡ updated L r
 unfolding updated first unlawful update held stored
-done L r e = rw e (ap given (stored-name-is L (r .id) (stored-names L r e .1)))
+done L r e = rw e (ap (λ (x : Record). given (x .id)) (stored-is L r e))
 
 refused : (L : Limits) (r : Record) (z : Record) → isStored L r ≡ false → z ≡ blank L → record { answer = Refused Unlawful; stamp = z } ≡ updated L r
 unfolding updated first unlawful
