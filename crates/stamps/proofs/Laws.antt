@@ -1,9 +1,9 @@
 -- A stored record in the parts that the code asks for, one after the other; and a name with a digit appended to each string, word by word.
 -- Assumes nothing.
-use mathlib.Core.Path.{_≡_, refl, sym, ap, ap₂, _∙_, subst}
-use mathlib.Core.Bool.{Bool, true, false, not, _&&_}
+use mathlib.Core.Path.{_≡_, refl, sym, ap, ap₂, _∙_}
+use mathlib.Core.Bool.{Bool, true, false, _&&_}
 use mathlib.Core.List.{List, [], _∷_, _++_, map}
-use mathlib.Core.Logic.{inl, inr, ⊎-elim}
+use mathlib.Core.Logic.{inl, inr}
 use Prim.Native.Nat.{ℕ, zero, suc, _+_, _*_, _-_, _%_, _^_, _≤_, _<_}
 use native.Mathlib.Numerals.{add-one}
 use native.Mathlib.Omega.{arith}
@@ -18,14 +18,14 @@ use Rattle.rules.specs.Stored.{wordsOf, stored, strsIn, held, sameWords, sameRe
 use Rattle.rules.specs.declared.Words.{Words}
 use Rattle.rules.specs.declared.Record.{Record}
 use Rattle.laws.proofs.Tests.{and-left, and-right, In, any-none}
+use Rattle.laws.proofs.Bits.{digit-eqb}
+use Rattle.laws.proofs.Pairs.{firstTwins, neighbour-pair}
 use Rattle.laws.proofs.Words.{word-length, word-lt, word-grown}
 use Rattle.laws.proofs.Shares.{grown-length}
 use Rattle.laws.proofs.Fork.{append-length}
 use Rattle.laws.proofs.Lawful.{Named, name-parts}
-use Rattle.laws.proofs.Bits.{digit-eqb}
-use Rattle.laws.proofs.Pairs.{firstTwins, neighbour-pair}
+use Rattle.laws.proofs.Stored.{stored-name, stored-name-is}
 use Rattle.names.proofs.Laws.{strs-cons, strs-end}
-use Rattle.names.proofs.Shape.{stored-name, stored-name-is}
 
 -- ---- a stored record
 
@@ -100,9 +100,10 @@ module _ (L : Limits) (n : Words) (h : isStoredName L n ≡ true) where
   pub stored-pair : firstTwins (strOf (getD (n .words) 0 0) ∷ drop 1 (strsIn n)) ≡ pair (strsIn n)
   stored-pair = ap firstTwins (sym (stored-cons 0 stored-filled)) ∙ sym (neighbour-pair (strsIn n) (named .rises))
 
--- ---- the first elements changed
+-- ---- changed one after the other
 
 module _ (f : ℕ → ℕ) where
+  -- the first c elements changed, the others as they are
   unfoldable pub firsts : ℕ → List ℕ → List ℕ
   firsts zero l = l
   firsts (suc c) [] = []
@@ -170,17 +171,18 @@ module _ (L : Limits) (room : L .digits ≤ 58) (n : Words) (h : isStoredName L 
       rw (e, f) (word-lt (s ▹ eqb d 1) (omega (arith, grown-length s (eqb d 1))))
 
   -- all strings done
-  pub grown-name : (d : ℕ) (r : Words) → d < 2 → r .count ≡ n .count → r .words ≡ firsts (longer d) (n .count) (n .words) → r ≡ wordsOf L (append (eqb d 1) (strsIn n))
+  pub grown-name : (d : ℕ) (r : Words) → d < 2 → r .count ≡ n .count → r .words ≡ firsts (longer d) (n .count) (n .words)
+      → r ≡ wordsOf L (append (eqb d 1) (strsIn n))
   unfolding wordsOf
   grown-name d r k p q =
       let m = strsIn n in
       let m′ = append (eqb d 1) m in
       let count : r .count ≡ length m′ = p ∙ stored-count L n h ∙ sym (append-length (eqb d 1) m) in
       let words : r .words ≡ map wordOf m′ ++ replicate (L .strings - length m′) 0 =
-        q
-        ∙ ap (λ (x : ℕ). firsts (longer x) (n .count) (n .words)) (sym (digit-eqb d k))
-        ∙ ap₂ (firsts (longer (digit (eqb d 1)))) (stored-count L n h ∙ sym (length-map m wordOf)) (words-are L n h)
-        ∙ firsts-all (longer (digit (eqb d 1))) (map wordOf m) (zeros L n h)
-        ∙ ap₂ (λ (l z : List ℕ). l ++ z) (longer-words (eqb d 1) m (λ s i. omega (arith, shorter s i)))
-        (ap (λ (j : ℕ). replicate {A = ℕ} (L .strings - j) 0) (sym (append-length (eqb d 1) m))) in
+      q
+      ∙ ap (λ (x : ℕ). firsts (longer x) (n .count) (n .words)) (sym (digit-eqb d k))
+      ∙ ap₂ (firsts (longer (digit (eqb d 1)))) (stored-count L n h ∙ sym (length-map m wordOf)) (words-are L n h)
+      ∙ firsts-all (longer (digit (eqb d 1))) (map wordOf m) (zeros L n h)
+      ∙ ap₂ (λ (l z : List ℕ). l ++ z) (longer-words (eqb d 1) m (λ s i. omega (arith, shorter s i)))
+      (ap (λ (j : ℕ). replicate {A = ℕ} (L .strings - j) 0) (sym (append-length (eqb d 1) m))) in
       λ i. record { count = count i; words = words i }

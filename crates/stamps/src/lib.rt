@@ -1,17 +1,17 @@
 // Stamps by value, on records of any content: lawful, update, fork, compare, and what 2, 8 and 9 ask of two stamps that meet.
 ghost use mathlib.Core.Path.{_≡_};
-ghost use mathlib.Core.Bool.{Bool, true, false, not};
+ghost use mathlib.Core.Bool.{true, false, not};
 ghost use mathlib.Core.List.{[]};
-ghost use Prim.Native.Nat.{ℕ, _≤_, _<_};
+ghost use Prim.Native.Nat.{_<_};
 ghost use lib.Dec.{eqb};
-ghost use Rattle.rules.specs.Limits.{narrow};
 ghost use lib.ListN.{length};
+ghost use Rattle.rules.specs.Limits.{narrow};
 ghost use Rattle.rules.specs.Names.{any};
 ghost use Rattle.rules.specs.Stamps.{append, isNone, pair};
 ghost use Rattle.rules.specs.Stored.{blank, held, isStored, isStoredName, strsIn, wordsOf};
 ghost use Rattle.rules.specs.Refusals.{first, overlap, unseen};
-ghost use Rattle.rules.specs.declared.Answer.the-variants.{Refused};
 ghost use Rattle.rules.specs.Values.{updated, forked, compared, meeting};
+ghost use Rattle.rules.specs.declared.Answer.the-variants.{Refused};
 use names::is_below;
 use names::is_name;
 use names::is_touching;
@@ -24,8 +24,8 @@ use rules::Record;
 use rules::Refusal;
 use rules::Verdict;
 use rules::Words;
-use strings::are_siblings;
 use strings::DIGITS;
+use strings::are_siblings;
 
 // Whether the record is the stored shape of a lawful stamp.
 pub fn is_lawful(r: Record) -> bool
@@ -125,7 +125,7 @@ fn nothing() -> Record
     Record { update: n, id: n }
 }
 
-// Whether some string has as many digits as a string may have.
+// Whether some string has as many digits as a string may have, and so can grow no longer.
 fn is_long(n: Words) -> bool
     requires { ⌜ isStoredName narrow n ≡ true ⌝ }
     ensures { λ b. ⌜ b ≡ any (λ t. eqb (length t) (narrow .digits)) (strsIn n) ⌝ }
@@ -142,7 +142,7 @@ fn is_long(n: Words) -> bool
     false
 }
 
-// The name with the digit d appended to each string.
+// The name with the digit d appended to each string: in a word the length grows by one, and d comes behind the other digits.
 fn grown(n: Words, d: u64) -> Words
     requires { ⌜ (isStoredName narrow n ≡ true) × (any (λ t. eqb (length t) (narrow .digits)) (strsIn n) ≡ false) × (d < 2) ⌝ }
     ensures { λ r. ⌜ r ≡ wordsOf narrow (append (eqb d 1) (strsIn n)) ⌝ }
@@ -214,19 +214,19 @@ pub fn compare(a: Record, b: Record) -> Compared
     }
 }
 
-// How the first's update stands to the second's.
+// How the first's update stands to the second's: below is asked both ways.
 fn judged(a: Record, b: Record) -> Verdict
     ensures { λ v. ⌜ v ≡ Rattle.rules.specs.Stamps.compare (held a) (held b) ⌝ }
 {
-    let u = a.update;
-    let v = b.update;
-    if is_below(u, v) {
-        if is_below(v, u) {
+    let m = a.update;
+    let n = b.update;
+    if is_below(m, n) {
+        if is_below(n, m) {
             return Verdict::Equal;
         }
         return Verdict::Obsolete;
     }
-    if is_below(v, u) {
+    if is_below(n, m) {
         return Verdict::Newer;
     }
     Verdict::Conflict

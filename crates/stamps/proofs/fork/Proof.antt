@@ -1,8 +1,8 @@
 -- `stamps::fork` meets its contract: the tests in their order, a stored update kept as it is, and the id grown by 0 and by 1. Assumes nothing.
 use borrow.Author.Needs.{needs}
 use borrow.Author.Tests.{not-true, not-false}
-use mathlib.Core.Path.{_≡_, refl, sym, ap, _∙_}
-use mathlib.Core.Bool.{Bool, true, false, not}
+use mathlib.Core.Path.{_≡_, sym, ap, _∙_}
+use mathlib.Core.Bool.{Bool, true, false}
 use native.Mathlib.Omega.{arith}
 use lib.Dec.{eqb}
 use lib.ListN.{length}
@@ -18,7 +18,7 @@ use Rattle.rules.specs.declared.Forked.{Forked}
 use Rattle.rules.specs.declared.Refusal.{Refusal}
 use Rattle.rules.specs.declared.Refusal.the-variants.{Unlawful, Long}
 use Rattle.rules.specs.declared.Answer.the-variants.{Done, Refused}
-use Rattle.names.proofs.Shape.{stored-name-is}
+use Rattle.laws.proofs.Stored.{stored-is}
 use Rattle.stamps.proofs.Laws.{stored-names}
 use Rattle.stamps.proofs.fork.Statement.{statement}
 use Rattle.stamps.proofs.fork.Tie as tie
@@ -43,7 +43,7 @@ module _ (L : Limits) (r : Record) where
       → record { answer = Done; zero = record { update = r .update; id = i0 }; one = record { update = r .update; id = i1 } } ≡ forked L r
   unfolding forked first unlawful long held fork stored
   done i0 i1 e l p q =
-      let u = stored-name-is L (r .update) (stored-names L r e .0) in
+      let u = ap (λ (x : Record). x .update) (stored-is L r e) in
       rw (e, l) (λ i. record { answer = Done; zero = record { update = u i; id = p i }; one = record { update = u i; id = q i } })
 
 is-lawful-requires : tie.Need-is-lawful-requires
@@ -77,8 +77,7 @@ grown-requires : tie.Need-grown-requires
 grown-requires c κs =
     let l = c .before in
     let o = l .before .before .before in
-    let a = o .before in
-    (
+    let a = o .before in (
       stored-names narrow (a .before .args .r) (sym (a .is-lawful .ensures) ∙ not-false _ (o .if1 .left)) .1,
       sym (l .is-long .ensures) ∙ c .if2 .left,
       omega arith,
@@ -88,8 +87,7 @@ grown-requires-2 : tie.Need-grown-requires-2
 grown-requires-2 c κs =
     let l = c .before .before in
     let o = l .before .before .before in
-    let a = o .before in
-    (
+    let a = o .before in (
       stored-names narrow (a .before .args .r) (sym (a .is-lawful .ensures) ∙ not-false _ (o .if1 .left)) .1,
       sym (l .is-long .ensures) ∙ c .before .if2 .left,
       omega arith,

@@ -1,11 +1,10 @@
 -- `stamps::grown` meets its contract: each word in its place becomes that of its string with the digit more. Assumes nothing.
 use borrow.Author.Needs.{needs}
 use mathlib.Core.Path.{_≡_, refl, sym, ap, _∙_}
-use mathlib.Core.List.{List}
 use native.Mathlib.Nat.{mod-eq-of-lt}
 use native.Mathlib.Omega.{arith}
 use Prim.Native.Nat.{ℕ, _+_, _*_, _-_, _%_, _^_, _≤_, _<_}
-use lib.ListN.{getD, set}
+use lib.ListN.{getD}
 use Rattle.rules.specs.Limits.{narrow}
 use Rattle.stamps.proofs.Laws.{stored-few, firsts, firsts-none, firsts-more, longer, longer-fits, grown-name}
 use Rattle.stamps.proofs.grown.Statement.{statement}
@@ -66,13 +65,12 @@ loop-again : tie.Need-loop-again Inv-loop μ-loop
 loop-again c =
     let l = c .before .before in
     let g = l .before in
-    let w = word g (l .loop .i) (omega arith) in
-    (
+    let w = word g (l .loop .i) (omega arith) in (
       search needs,
       search needs,
       l .loop .inv .2,
       firsts-more (longer (g .args .d)) (l .loop .i) _ (g .args .t1 .words) (l .loop .out .words) (l .loop .inv .3)
-      (ap (λ (x : ℕ). w + 1 + x) (uncut g (l .loop .i) (omega arith))),
+          (ap (λ (x : ℕ). w + 1 + x) (uncut g (l .loop .i) (omega arith))),
     )
 
 returns : tie.Need-returns Inv-loop μ-loop

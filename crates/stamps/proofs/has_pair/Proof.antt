@@ -1,12 +1,12 @@
 -- `stamps::has_pair` meets its contract: it walks over neighbours, and in rising order they are enough. Assumes nothing.
 use borrow.Author.Needs.{needs}
-use mathlib.Core.Path.{_≡_, refl, sym, ap, _∙_}
-use mathlib.Core.Bool.{Bool, true, false, not}
-use mathlib.Core.List.{_∷_, dropLast}
-use mathlib.Core.Option.{Option, none, some}
+use mathlib.Core.Path.{_≡_, sym, ap, _∙_}
+use mathlib.Core.Bool.{Bool, not}
+use mathlib.Core.List.{_∷_}
+use mathlib.Core.Option.{Option}
 use native.Mathlib.Omega.{arith}
-use Prim.Native.Nat.{ℕ, _≤_, _-_}
-use lib.ListN.{length, getD, drop}
+use Prim.Native.Nat.{_≤_, _-_}
+use lib.ListN.{length, drop}
 use Rattle.rules.specs.Limits.{narrow}
 use Rattle.rules.specs.Strings.{Str, strOf}
 use Rattle.rules.specs.Names.{Name}

@@ -1,7 +1,7 @@
 -- `stamps::is_long` meets its contract: the length of a string stands in its word's low bits. Assumes nothing.
 use borrow.Author.Needs.{needs}
 use borrow.Author.Tests.{eq-eqb, ne-eqb}
-use mathlib.Core.Path.{_≡_, refl, sym, ap, _∙_}
+use mathlib.Core.Path.{_≡_, refl, sym, _∙_}
 use mathlib.Core.Bool.{Bool, true, false}
 use native.Mathlib.Omega.{arith}
 use Prim.Native.Nat.{ℕ, _%_, _≤_, _-_}
@@ -58,8 +58,7 @@ loop-less c = search needs
 loop-again : tie.Need-loop-again Inv-loop μ-loop
 loop-again c =
     let l = c .before .before .before in
-    let n = l .before .args .t1 in
-    (
+    let n = l .before .args .t1 in (
       search needs,
       search needs,
       sym (any-more long (stored-cons narrow n (l .before .pre) (l .loop .i) (omega arith)) (long-not _ (c .if1 .left))) ∙ l .loop .inv .2,

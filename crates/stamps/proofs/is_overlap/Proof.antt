@@ -1,6 +1,6 @@
 -- `stamps::is_overlap` meets its contract: the ids touch one way or the other. Assumes nothing.
 use borrow.Author.Needs.{needs}
-use mathlib.Core.Path.{_≡_, sym, _∙_}
+use mathlib.Core.Path.{sym, _∙_}
 use Rattle.rules.specs.Stored.{held}
 use Rattle.rules.specs.Refusals.{overlap}
 use Rattle.stamps.proofs.is_overlap.Statement.{statement}

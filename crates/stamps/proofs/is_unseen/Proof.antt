@@ -1,6 +1,6 @@
 -- `stamps::is_unseen` meets its contract: an update is unknown one way or the other. Assumes nothing.
 use borrow.Author.Needs.{needs}
-use mathlib.Core.Path.{_≡_, sym, _∙_}
+use mathlib.Core.Path.{sym, _∙_}
 use Rattle.rules.specs.Stored.{held}
 use Rattle.rules.specs.Refusals.{unseen}
 use Rattle.stamps.proofs.is_unseen.Statement.{statement}

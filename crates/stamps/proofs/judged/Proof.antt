@@ -1,6 +1,6 @@
 -- `stamps::judged` meets its contract: below is asked both ways. Assumes nothing.
 use borrow.Author.Needs.{needs}
-use mathlib.Core.Path.{_≡_, sym, _∙_}
+use mathlib.Core.Path.{sym, _∙_}
 use Rattle.rules.specs.Stamps.{compare}
 use Rattle.rules.specs.Stored.{held}
 use Rattle.stamps.proofs.judged.Statement.{statement}

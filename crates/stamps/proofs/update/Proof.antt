@@ -1,7 +1,7 @@
 -- `stamps::update` meets its contract: a stored id is its own stored shape. Assumes nothing.
 use borrow.Author.Needs.{needs}
-use mathlib.Core.Path.{_≡_, refl, sym, ap, _∙_}
-use mathlib.Core.Bool.{Bool, true, false}
+use mathlib.Core.Path.{_≡_, sym, ap, _∙_}
+use mathlib.Core.Bool.{true, false}
 use Rattle.rules.specs.Limits.{Limits, narrow}
 use Rattle.rules.specs.Stamps.{update}
 use Rattle.rules.specs.Stored.{stored, held, isStored, unlawful, blank}
@@ -12,8 +12,7 @@ use Rattle.rules.specs.declared.Record.{Record}
 use Rattle.rules.specs.declared.Given.{Given}
 use Rattle.rules.specs.declared.Refusal.the-variants.{Unlawful}
 use Rattle.rules.specs.declared.Answer.the-variants.{Done, Refused}
-use Rattle.names.proofs.Shape.{stored-name-is}
-use Rattle.stamps.proofs.Laws.{stored-names}
+use Rattle.laws.proofs.Stored.{stored-is}
 use Rattle.stamps.proofs.update.Statement.{statement}
 use Rattle.stamps.proofs.update.Tie as tie
 
@@ -22,7 +21,7 @@ given i = record { answer = Done; stamp = record { update = i; id = i } }
 
 done : (L : Limits) (r : Record) → isStored L r ≡ true → given (r .id) ≡ updated L r
 unfolding updated first unlawful update held stored
-done L r e = rw e (ap given (stored-name-is L (r .id) (stored-names L r e .1)))
+done L r e = rw e (ap (λ (x : Record). given (x .id)) (stored-is L r e))
 
 refused : (L : Limits) (r : Record) (z : Record) → isStored L r ≡ false → z ≡ blank L → record { answer = Refused Unlawful; stamp = z } ≡ updated L r
 unfolding updated first unlawful
