@@ -21,7 +21,8 @@ use Rattle.laws.proofs.Lawful.{Short}
 use Rattle.joins.specs.declared.Both.{Both}
 use Rattle.joins.specs.declared.Found.{Found}
 use Rattle.joins.specs.declared.Found.the-variants.{At, Nothing}
-use Rattle.joins.specs.Passes.{front, wide, passW}
+use Rattle.joins.specs.Runs.{front, wide}
+use Rattle.joins.specs.Passes.{passW}
 use Rattle.joins.specs.Working.{foundW, steppedBy, stepped, wideOf, bothOf, Sized}
 use Rattle.joins.proofs.Shapes.{wide-words, wide-count}
 use Rattle.joins.proofs.Strings.{pass-words, grown-length}
@@ -93,5 +94,6 @@ module _ (x : Stamp) (z : Sized x) where
       by none f = ended f (e ∙ finds (found-none (x .id) (z .proper .idRising) (roomy (x .id) (z .shortId)) f) ∙ unchanged)
       by (some s) f =
           let i = pair-in (x .id) s f in
-          stepped-on (settled s x) (settled-sized s (i .0) (i .1)) (settled-shorter s x (z .proper) (i .0) (i .1)) (reduce-settled s x (z .proper) (i .0) (i .1))
+          stepped-on (settled s x) (settled-sized s (i .0) (i .1)) (settled-shorter s x (z .proper) (i .0) (i .1))
+          (reduce-settled s x (z .proper) (i .0) (i .1))
           (e ∙ settles s (i .0) (i .1) (finds (found-some (x .id) s (z .proper .idRising) (roomy (x .id) (z .shortId)) f)))

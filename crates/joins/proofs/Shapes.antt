@@ -14,9 +14,9 @@ use Rattle.rules.specs.declared.Words.{Words}
 use Rattle.laws.proofs.Words.{str-word}
 use Rattle.laws.proofs.Lawful.{Short, Named, name-parts}
 use Rattle.laws.proofs.Stored.{stored-name, stored-name-is}
-use Rattle.joins.specs.Passes.{front}
-use Rattle.joins.specs.Working.{words, wideOf, strs}
-use Rattle.joins.proofs.Passes.{front-append, front-wide, sets-zeros}
+use Rattle.joins.specs.Runs.{front, words}
+use Rattle.joins.specs.Working.{wideOf, strs}
+use Rattle.joins.proofs.Runs.{front-append, front-wide, sets-zeros}
 
 -- ---- a name's record
 
@@ -34,7 +34,8 @@ module _ (w : Words) (h : isStoredName narrow w ≡ true) where
   pub stored-words : front (w .words) (w .count) ≡ map wordOf (strsIn w)
   unfolding wordsOf
   stored-words =
-      ap₂ (λ (ws : List ℕ) (c : ℕ). front ws c) (ap (λ (x : Words). x .words) (stored-name-is narrow w h)) (stored-count ∙ sym (length-map (strsIn w) wordOf))
+      ap₂ (λ (ws : List ℕ) (c : ℕ). front ws c) (ap (λ (x : Words). x .words) (stored-name-is narrow w h))
+      (stored-count ∙ sym (length-map (strsIn w) wordOf))
       ∙ front-append (map wordOf (strsIn w)) (replicate (16 - length (strsIn w)) 0)
 
 -- what is copied into a name's record is the stored shape

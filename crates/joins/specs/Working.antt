@@ -3,19 +3,18 @@ use mathlib.Core.Path.{_≡_}
 use mathlib.Core.Bool.{Bool, true, false, cond}
 use mathlib.Core.List.{List, [], _∷_, map}
 use Prim.Native.Nat.{ℕ, _-_, _≤_}
-use lib.ListN.{length, replicate}
-use lib.Seq.{sets}
+use lib.ListN.{length}
 use Rattle.rules.specs.Strings.{wordOf, strOf, siblings}
 use Rattle.rules.specs.Names.{Name}
 use Rattle.rules.specs.Stamps.{Stamp}
-use Rattle.rules.specs.declared.Words.{Words}
 use Rattle.laws.proofs.Steps.{Proper}
 use Rattle.laws.proofs.Lawful.{Short}
 use Rattle.joins.specs.declared.Wide.{Wide}
 use Rattle.joins.specs.declared.Both.{Both}
 use Rattle.joins.specs.declared.Found.{Found}
 use Rattle.joins.specs.declared.Found.the-variants.{At, Nothing}
-use Rattle.joins.specs.Passes.{passW, front, wide}
+use Rattle.joins.specs.Runs.{front, wide}
+use Rattle.joins.specs.Passes.{passW}
 
 -- ---- on words
 
@@ -37,10 +36,6 @@ steppedBy (At s) x =
 
 unfoldable pub stepped : Both → Both
 stepped x = steppedBy (foundW (front (x .id .words) (x .id .count))) x
-
--- the name's record that holds these words, and zeros behind them
-abbrev pub words : List ℕ → Words
-words l = record { count = length l; words = sets (replicate 16 0) 0 l }
 
 -- ---- on strings
 

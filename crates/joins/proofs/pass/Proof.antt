@@ -10,8 +10,10 @@ use lib.Seq.{sets}
 use Rattle.rules.specs.Strings.{digit}
 use Rattle.joins.specs.declared.Wide.{Wide}
 use Rattle.joins.specs.declared.Turn.{Turn}
-use Rattle.joins.specs.Passes.{opt, turnOf, passW, front, run}
-use Rattle.joins.proofs.Passes.{opt-length, rest, turn-fits, turn-count, turn-words, pass-end, pass-length, run-more, run-end, run-start, run-length, wide-is}
+use Rattle.joins.specs.Runs.{front, run}
+use Rattle.joins.specs.Passes.{opt, turnOf, passW}
+use Rattle.joins.proofs.Runs.{run-more, run-end, run-start, run-length, wide-is}
+use Rattle.joins.proofs.Passes.{opt-length, rest, turn-fits, turn-count, turn-words, pass-end, pass-length}
 use Rattle.joins.proofs.pass.Statement.{statement}
 use Rattle.joins.proofs.pass.Tie as tie
 
@@ -108,7 +110,8 @@ loop-again c =
       search needs,
       turn-count (adding l) (s l) (t l) (l .loop .placed) (tail l) d (a .turned .ensures) k k₁ k₂ e₁ e₂
           ∙ ap (λ (x : List ℕ). k + length x) (sym (more l (omega arith))) ∙ l .loop .inv .1,
-      turn-words (adding l) (s l) (t l) (l .loop .placed) (tail l) d (a .turned .ensures) k k₁ k₂ e₁ e₂ (out l .words) (b .push .result .words) (c .push2 .result .words)
+      turn-words (adding l) (s l) (t l) (l .loop .placed) (tail l) d (a .turned .ensures) k k₁ k₂ e₁ e₂
+          (out l .words) (b .push .result .words) (c .push2 .result .words)
           (b .push .ensures .1) (c .push2 .ensures .1)
           ∙ ap (sets (out l .words) k) (sym (more l (omega arith))) ∙ l .loop .inv .2,
     )
@@ -128,4 +131,5 @@ returns c =
 
 pub pass-spec : {M : Type 1} → statement M
 pass-spec =
-    tie.close (tie.spec Inv-loop μ-loop loop-holds mul-t element-copy-out-t turned-requires push-requires push-requires-2 add-i loop-less loop-again push-requires-3 returns)
+    tie.close
+    (tie.spec Inv-loop μ-loop loop-holds mul-t element-copy-out-t turned-requires push-requires push-requires-2 add-i loop-less loop-again push-requires-3 returns)

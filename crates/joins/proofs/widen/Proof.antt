@@ -5,8 +5,8 @@ use native.Mathlib.Omega.{arith}
 use borrow.Author.Needs.{needs}
 use lib.ListN.{replicate}
 use lib.Seq.{sets}
-use Rattle.joins.specs.Passes.{run, front}
-use Rattle.joins.proofs.Passes.{run-start, run-length, copy-more, copy-end}
+use Rattle.joins.specs.Runs.{run, front}
+use Rattle.joins.proofs.Runs.{run-start, run-length, copy-more, copy-end}
 use Rattle.joins.proofs.widen.Statement.{statement}
 use Rattle.joins.proofs.widen.Tie as tie
 
