@@ -7,7 +7,7 @@ use native.Mathlib.Omega.{arith}
 use lib.ListN.{length, getD, set, replicate, drop, length-append, length-replicate}
 use lib.Seq.{sets, sets-eq, getD-append-seam}
 use Rattle.joins.specs.declared.Wide.{Wide}
-use Rattle.joins.specs.Runs.{run, front, wide}
+use Rattle.joins.specs.Runs.{room, run, front, wide}
 
 -- ---- stores
 
@@ -72,11 +72,11 @@ sets-zeros k l h =
     dropped (suc k) (suc n) = dropped k n ∙ ap (λ (n : ℕ). replicate n 0) (let e : k - n ≡ suc k - suc n = omega arith in e)
 
 -- a working name tells the words that it was made of
-pub front-wide : (l : List ℕ) → length l ≤ 32 → front (wide l .words) (length l) ≡ l
-front-wide l h = ap (λ (q : List ℕ). run q 0 (length l)) (sets-zeros 32 l h) ∙ front-append l (replicate (32 - length l) 0)
+pub front-wide : (l : List ℕ) → length l ≤ room → front (wide l .words) (length l) ≡ l
+front-wide l h = ap (λ (q : List ℕ). run q 0 (length l)) (sets-zeros room l h) ∙ front-append l (replicate (room - length l) 0)
 
-pub wide-is : (r : Wide) (l : List ℕ) → r .count ≡ length l → r .words ≡ sets (replicate 32 0) 0 l → r ≡ wide l
+pub wide-is : (r : Wide) (l : List ℕ) → r .count ≡ length l → r .words ≡ sets (replicate room 0) 0 l → r ≡ wide l
 wide-is r l p q = λ i. record { count = p i; words = q i }
 
-pub wide-self : (r : Wide) (l : List ℕ) → length l ≤ 32 → r ≡ wide l → front (r .words) (r .count) ≡ l
+pub wide-self : (r : Wide) (l : List ℕ) → length l ≤ room → r ≡ wide l → front (r .words) (r .count) ≡ l
 wide-self r l h e = ap (λ (w : Wide). front (w .words) (w .count)) e ∙ front-wide l h

@@ -14,7 +14,7 @@ use Rattle.rules.specs.Stored.{strsIn, isStoredName}
 use Rattle.rules.specs.declared.Words.{Words}
 use Rattle.laws.proofs.Lawful.{Short}
 use Rattle.joins.specs.declared.Wide.{Wide}
-use Rattle.joins.specs.Runs.{run, front, wide}
+use Rattle.joins.specs.Runs.{room, run, front, wide}
 use Rattle.joins.specs.Passes.{passW}
 use Rattle.joins.specs.Working.{wideOf}
 use Rattle.joins.proofs.Runs.{run-more, run-end, run-start, run-length, wide-self}
@@ -29,14 +29,14 @@ held w = front (w .words) (w .count)
 
 abbrev Inv-loop : tie.InvT-loop
 Inv-loop m c acc₀ i₀ acc i =
-    (i ≤ c) × (c ≤ 16) × (acc .count ≤ 16 + i) × (acc ≡ wide (held acc))
+    (i ≤ c) × (c ≤ narrow .strings) × (acc .count ≤ narrow .strings + i) × (acc ≡ wide (held acc))
     × (unionW (run (m .words) i (c - i)) (held acc) ≡ unionW (front (m .words) c) (held acc₀))
 
 abbrev μ-loop : tie.MeasureT-loop
 μ-loop m c acc₀ i₀ acc i = c - i
 
 -- what a working name that is made of words says
-made : (r : Wide) (l : List ℕ) → length l ≤ 32 → r ≡ wide l → (r .count ≡ length l) × (r ≡ wide (held r)) × (held r ≡ l)
+made : (r : Wide) (l : List ℕ) → length l ≤ room → r ≡ wide l → (r .count ≡ length l) × (r ≡ wide (held r)) × (held r ≡ l)
 made r l h e = let f = wide-self r l h e in (ap (λ (w : Wide). w .count) e, e ∙ ap wide (sym f), f)
 
 step : (ws : List ℕ) (i c : ℕ) (a r : Wide) (z : List ℕ) → i < c → held r ≡ passW true (getD ws i 0) (held a) → unionW (run ws i (c - i)) (held a) ≡ z
