@@ -1,0 +1,102 @@
+-- Fields of bits in bytes, each law over every width: a number read by parts of bytes, a string read from the bits behind a position.
+-- Assumes nothing.
+use mathlib.Core.Path.{_≡_, refl, sym, ap, ap₂, _∙_}
+use mathlib.Core.Bool.{Bool}
+use mathlib.Core.List.{List, [], _∷_, _++_}
+use mathlib.Core.Option.{none, some}
+use Prim.Native.Nat.{ℕ, zero, suc, _+_, _*_, _-_, _/_, _%_, _^_, _≤_, _<_}
+use native.Mathlib.Nat.{le-of-suc-le-suc, not-suc-le-zero, mul-le-mul-right, suc-mul}
+use native.Mathlib.Omega.{arith}
+use borrow.Author.Tests.{le-leb, lt-leb}
+use lib.Pow.{pow-add, shl-exact}
+use lib.ListN.{length, getD, take, drop, length-drop}
+use lib.Seq.{take-at, drop-at, take-append-le, drop-append-le, drop-drop, take-add, length-take-le}
+use Rattle.rules.specs.Limits.{narrow}
+use Rattle.rules.specs.Strings.{Str, field, valueFrom, value, aligned, wordOf, strOf}
+use Rattle.rules.specs.Packed.{bitsOf, takeBits, takeNumber, takeString}
+use Rattle.laws.proofs.Bits.{field-length, value-append, value-shift, value-field}
+use Rattle.laws.proofs.Words.{field-split, field-top, word-value, str-word}
+
+-- ---- bits that stand in one byte
+
+field-part : (off k r a : ℕ) → take k (drop off (field (off + (k + r)) a)) ≡ field k (a / 2 ^ r)
+field-part off k r a =
+    ap (λ (l : List Bool). take k (drop off l)) (field-split off (k + r) a)
+    ∙ ap (take k) (drop-at (field off (a / 2 ^ (k + r))) (field (k + r) a) off (field-length off (a / 2 ^ (k + r)))) ∙ field-top k r a
+
+byte-part : (b : List ℕ) (q r k : ℕ) → q < length b → r + k ≤ 8 → take k (drop (q * 8 + r) (bitsOf b)) ≡ take k (drop r (field 8 (getD b q 0)))
+unfolding bitsOf
+byte-part [] q r k h l = absurd (not-suc-le-zero h)
+byte-part (x ∷ b) zero r k h l =
+    ap (λ (n : ℕ). take k (drop n (field 8 x ++ bitsOf b))) (let e : 0 * 8 + r ≡ r = omega arith in e)
+    ∙ ap (take k) (drop-append-le r (field 8 x) (bitsOf b) (omega (arith, field-length 8 x)))
+    ∙ take-append-le k (drop r (field 8 x)) (bitsOf b) (omega (arith, length-drop r (field 8 x), field-length 8 x))
+byte-part (x ∷ b) (suc q) r k h l =
+    ap (λ (n : ℕ). take k (drop n (field 8 x ++ bitsOf b))) (let e : suc q * 8 + r ≡ 8 + (q * 8 + r) = omega arith in e)
+    ∙ ap (take k) (sym (drop-drop (q * 8 + r) 8 (field 8 x ++ bitsOf b)) ∙ ap (drop (q * 8 + r)) (drop-at (field 8 x) (bitsOf b) 8 (field-length 8 x)))
+    ∙ byte-part b q r k (le-of-suc-le-suc h) l
+
+bits-part : (b : List ℕ) (at k : ℕ) → at / 8 < length b → at % 8 + k ≤ 8 → take k (drop at (bitsOf b)) ≡ field k (getD b (at / 8) 0 / 2 ^ (8 - at % 8 - k))
+bits-part b at k h l =
+    ap (λ (n : ℕ). take k (drop n (bitsOf b))) (let e : at ≡ at / 8 * 8 + at % 8 = omega arith in e)
+    ∙ byte-part b (at / 8) (at % 8) k h l
+    ∙ ap (λ (n : ℕ). take k (drop (at % 8) (field n (getD b (at / 8) 0)))) (let e : 8 ≡ at % 8 + (k + (8 - at % 8 - k)) = omega arith in e)
+    ∙ field-part (at % 8) k (8 - at % 8 - k) (getD b (at / 8) 0)
+
+value-behind : (a k v : ℕ) → valueFrom a (field k v) ≡ a * 2 ^ k + v % 2 ^ k
+value-behind a k v = value-shift a (field k v) ∙ ap₂ (λ (m n : ℕ). a * 2 ^ m + n) (field-length k v) (value-field k v)
+
+-- one part more of a number that is read
+pub part-step : (b : List ℕ) (at left k acc x z : ℕ) → at / 8 < length b → at % 8 + k ≤ 8 → k ≤ left → x ≡ getD b (at / 8) 0
+    → valueFrom acc (take left (drop at (bitsOf b))) ≡ z
+    → valueFrom (acc * 2 ^ k + x / 2 ^ (8 - at % 8 - k) % 2 ^ k) (take (left - k) (drop (at + k) (bitsOf b))) ≡ z
+part-step b at left k acc x z h l g e f =
+    let y = getD b (at / 8) 0 / 2 ^ (8 - at % 8 - k) in
+    let rest = take (left - k) (drop (at + k) (bitsOf b)) in
+    ap (λ (n : ℕ). valueFrom (acc * 2 ^ k + n / 2 ^ (8 - at % 8 - k) % 2 ^ k) rest) e
+    ∙ ap (λ (n : ℕ). valueFrom n rest) (sym (value-behind acc k y)) ∙ sym (value-append acc (field k y) rest)
+    ∙ ap (valueFrom acc)
+    (ap₂ (λ (s t : List Bool). s ++ take (left - k) t) (sym (bits-part b at k h l)) (sym (drop-drop k at (bitsOf b)))
+    ∙ sym (take-add k (left - k) (drop at (bitsOf b))) ∙ ap (λ (n : ℕ). take n (drop at (bitsOf b))) (let d : k + (left - k) ≡ left = omega arith in d))
+    ∙ f
+
+-- and its room
+pub part-room : (acc d k y : ℕ) → acc < 2 ^ d → y < 2 ^ k → acc * 2 ^ k + y < 2 ^ (d + k)
+part-room acc d k y h g =
+    let e : suc acc * 2 ^ k ≤ 2 ^ d * 2 ^ k = mul-le-mul-right (2 ^ k) h in
+    let f : suc acc * 2 ^ k ≡ acc * 2 ^ k + 2 ^ k = suc-mul acc (2 ^ k) in
+    omega (arith, pow-add 2 d k)
+
+-- ---- the ways of a reader of a string
+
+pub string-cut : (bs : List Bool) → length bs < 5 → takeString narrow bs ≡ none
+unfolding takeString takeNumber takeBits
+string-cut bs h = simp (lt-leb 5 (length bs) h)
+
+pub string-long : (bs : List Bool) (n : ℕ) → 5 ≤ length bs → n ≡ value (take 5 bs) → 24 < n → takeString narrow bs ≡ none
+unfolding takeString takeNumber takeBits
+string-long bs n h e l = simp (le-leb 5 (length bs) h, sym e, lt-leb n 24 l)
+
+pub string-short : (bs : List Bool) (n : ℕ) → 5 ≤ length bs → n ≡ value (take 5 bs) → n ≤ 24 → length bs < n + 5 → takeString narrow bs ≡ none
+unfolding takeString takeNumber takeBits
+string-short bs n h e l s = simp (le-leb 5 (length bs) h, sym e, le-leb n 24 l, lt-leb n (length (drop 5 bs)) (omega (arith, length-drop 5 bs)))
+
+pub string-there : (bs : List Bool) (n : ℕ) → 5 ≤ length bs → n ≡ value (take 5 bs) → n ≤ 24 → n + 5 ≤ length bs
+    → takeString narrow bs ≡ some (take n (drop 5 bs), drop n (drop 5 bs))
+unfolding takeString takeNumber takeBits
+string-there bs n h e l s = simp (le-leb 5 (length bs) h, sym e, le-leb n 24 l, le-leb n (length (drop 5 bs)) (omega (arith, length-drop 5 bs)))
+
+-- no string at all
+pub no-word : wordOf (strOf 0) ≡ 0
+unfolding wordOf strOf aligned valueFrom
+no-word = refl
+
+-- the word that is made of a string's number
+pub word-is : (s : Str) (v n w : ℕ) → length s ≡ n → n ≤ 24 → v ≡ value s → w ≡ v * 2 ^ (64 - n) + n → w ≡ wordOf s
+word-is s v n w e h f g = g ∙ ap₂ (λ (x k : ℕ). x * 2 ^ (64 - k) + k) f (sym e) ∙ sym (word-value s)
+
+-- and it tells the string
+pub word-tells : (s : Str) (w : ℕ) → length s ≤ 24 → w ≡ wordOf s → (strOf w ≡ s) × (wordOf (strOf w) ≡ w)
+word-tells s w h e =
+    let t : strOf w ≡ s = ap strOf e ∙ str-word s (omega arith) in
+    (t, ap wordOf t ∙ sym e)
