@@ -2,19 +2,23 @@
 -- Assumes nothing.
 use mathlib.Core.Path.{_≡_, refl, sym, ap, ap₂, _∙_}
 use mathlib.Core.Bool.{Bool}
-use mathlib.Core.List.{List, [], _∷_, _++_}
+use mathlib.Core.List.{List, [], _∷_, _++_, append-assoc, map, map-append}
 use mathlib.Core.Option.{none, some}
 use Prim.Native.Nat.{ℕ, zero, suc, _+_, _*_, _-_, _/_, _%_, _^_, _≤_, _<_}
 use native.Mathlib.Nat.{le-of-suc-le-suc, not-suc-le-zero, mul-le-mul-right, suc-mul}
 use native.Mathlib.Omega.{arith}
 use borrow.Author.Tests.{le-leb, lt-leb}
 use lib.Pow.{pow-add, shl-exact}
-use lib.ListN.{length, getD, take, drop, length-drop}
-use lib.Seq.{take-at, drop-at, take-append-le, drop-append-le, drop-drop, take-add, length-take-le}
+use lib.ListN.{length, getD, set, take, drop, replicate, length-append, length-drop, length-map}
+use lib.Seq.{take-at, drop-at, take-append-le, drop-append-le, drop-drop, take-add, set-at, length-take-le}
 use Rattle.rules.specs.Limits.{narrow}
 use Rattle.rules.specs.Strings.{Str, field, valueFrom, value, aligned, wordOf, strOf}
+use Rattle.rules.specs.Names.{Name}
+use Rattle.rules.specs.Stored.{wordsOf}
+use Rattle.rules.specs.declared.Words.{Words}
 use Rattle.rules.specs.Packed.{bitsOf, takeBits, takeNumber, takeString}
 use Rattle.laws.proofs.Bits.{field-length, value-append, value-shift, value-field}
+use Rattle.layout.proofs.Bytes.{bits-length}
 use Rattle.laws.proofs.Words.{field-split, field-top, word-value, str-word}
 
 -- ---- bits that stand in one byte
@@ -67,6 +71,11 @@ part-room acc d k y h g =
     let f : suc acc * 2 ^ k ≡ acc * 2 ^ k + 2 ^ k = suc-mul acc (2 ^ k) in
     omega (arith, pow-add 2 d k)
 
+-- ---- the bits behind a position
+
+pub room-is : (b : List ℕ) (pos : ℕ) → length (drop pos (bitsOf b)) ≡ length b * 8 - pos
+room-is b pos = length-drop pos (bitsOf b) ∙ ap (λ (n : ℕ). n - pos) (bits-length b)
+
 -- ---- the ways of a reader of a string
 
 pub string-cut : (bs : List Bool) → length bs < 5 → takeString narrow bs ≡ none
@@ -100,3 +109,21 @@ pub word-tells : (s : Str) (w : ℕ) → length s ≤ 24 → w ≡ wordOf s → 
 word-tells s w h e =
     let t : strOf w ≡ s = ap strOf e ∙ str-word s (omega arith) in
     (t, ap wordOf t ∙ sym e)
+
+-- ---- the record of the strings so far
+
+-- a string more is one more word, in the place of a zero
+pub stored-more : (n : Name) (s : Str) (count w : ℕ) (words : List ℕ) → record { count = count; words = words } ≡ wordsOf narrow n → count < 16
+    → wordOf s ≡ w → record { count = count + 1; words = set words count w } ≡ wordsOf narrow (n ++ (s ∷ []))
+unfolding wordsOf
+stored-more n s count w words e h f =
+    let c : count ≡ length n = ap (λ (r : Words). r .count) e in
+    let l : length (n ++ (s ∷ [])) ≡ count + 1 = length-append n (s ∷ []) ∙ omega arith in
+    let seam : set words count w ≡ map wordOf n ++ (w ∷ replicate (15 - length n) 0) =
+    ap (λ (l : List ℕ). set l count w) (ap (λ (r : Words). r .words) e ∙ ap (λ (k : ℕ). map wordOf n ++ replicate k 0) (let d : 16 - length n ≡ suc (15 - length n) = omega arith in d))
+    ∙ set-at (map wordOf n) 0 (replicate (15 - length n) 0) w count (length-map n wordOf ∙ sym c) in
+    let whole : set words count w ≡ map wordOf (n ++ (s ∷ [])) ++ replicate (16 - length (n ++ (s ∷ []))) 0 =
+    seam ∙ ap (λ (x : ℕ). map wordOf n ++ (x ∷ replicate (15 - length n) 0)) (sym f)
+    ∙ sym (append-assoc (map wordOf n) (wordOf s ∷ []) (replicate (15 - length n) 0))
+    ∙ ap₂ (λ (l : List ℕ) (k : ℕ). l ++ replicate k 0) (sym (map-append wordOf n (s ∷ []))) (let d : 15 - length n ≡ 16 - length (n ++ (s ∷ [])) = omega arith in d) in
+    λ i. record { count = sym l i; words = whole i }

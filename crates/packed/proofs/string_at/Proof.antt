@@ -7,20 +7,16 @@ use mathlib.Core.Option.{none, some}
 use Prim.Native.Nat.{ℕ, _+_, _*_, _-_, _^_, _≤_, _<_}
 use native.Mathlib.Omega.{arith}
 use borrow.Author.Needs.{needs}
-use lib.ListN.{length, take, drop, length-drop}
+use lib.ListN.{length, take, drop}
 use lib.Seq.{drop-drop, length-take-le}
 use Rattle.rules.specs.Limits.{narrow}
 use Rattle.rules.specs.Strings.{Str, value, wordOf, strOf}
 use Rattle.rules.specs.Packed.{bitsOf, takeString}
 use Rattle.laws.proofs.Bits.{value-lt}
-use Rattle.layout.proofs.Bytes.{bits-length}
 use Rattle.packed.specs.Cursors.{StringAt}
-use Rattle.packed.proofs.Laws.{string-cut, string-long, string-short, string-there, no-word, word-is, word-tells}
+use Rattle.packed.proofs.Laws.{room-is, string-cut, string-long, string-short, string-there, no-word, word-is, word-tells}
 use Rattle.packed.proofs.string_at.Statement.{statement}
 use Rattle.packed.proofs.string_at.Tie as tie
-
-room-is : (b : List ℕ) (pos : ℕ) → length (drop pos (bitsOf b)) ≡ length b * 8 - pos
-room-is b pos = length-drop pos (bitsOf b) ∙ ap (λ (n : ℕ). n - pos) (bits-length b)
 
 refused : (b : List ℕ) (pos : ℕ) → takeString narrow (drop pos (bitsOf b)) ≡ none → StringAt b pos false 0 0
 refused b pos e = record { reads = e; whole = no-word; inside = omega arith }
