@@ -1,25 +1,31 @@
 -- Fields of bits in bytes, each law over every width: a number read by parts of bytes, a string read from the bits behind a position.
 -- Assumes nothing.
 use mathlib.Core.Path.{_≡_, refl, sym, ap, ap₂, _∙_}
-use mathlib.Core.Bool.{Bool}
+use mathlib.Core.Bool.{Bool, true}
 use mathlib.Core.List.{List, [], _∷_, _++_, append-assoc, map, map-append}
-use mathlib.Core.Option.{none, some}
+use mathlib.Core.Option.{Option, none, some}
 use Prim.Native.Nat.{ℕ, zero, suc, _+_, _*_, _-_, _/_, _%_, _^_, _≤_, _<_}
 use native.Mathlib.Nat.{le-of-suc-le-suc, not-suc-le-zero, mul-le-mul-right, suc-mul}
 use native.Mathlib.Omega.{arith}
-use borrow.Author.Tests.{le-leb, lt-leb}
+use borrow.Author.Tests.{le-leb, lt-leb, lt-ltb}
+use lib.Dec.{lit≤}
 use lib.Pow.{pow-add, shl-exact}
 use lib.ListN.{length, getD, set, take, drop, replicate, length-append, length-drop, length-map}
 use lib.Seq.{take-at, drop-at, take-append-le, drop-append-le, drop-drop, take-add, set-at, length-take-le}
 use Rattle.rules.specs.Limits.{narrow}
 use Rattle.rules.specs.Strings.{Str, field, valueFrom, value, aligned, wordOf, strOf}
-use Rattle.rules.specs.Names.{Name}
+use Rattle.rules.specs.Names.{Name, all, isName}
+use Rattle.rules.specs.Stamps.{Stamp}
 use Rattle.rules.specs.Stored.{wordsOf}
+use Rattle.rules.specs.Packed.{stringBits, stringsBits, nameBits, stampBits, bitsOf, takeBits, takeNumber, takeString, unpacked}
 use Rattle.rules.specs.declared.Words.{Words}
-use Rattle.rules.specs.Packed.{bitsOf, takeBits, takeNumber, takeString}
+use Rattle.laws.proofs.Tests.{and-both}
 use Rattle.laws.proofs.Bits.{field-length, value-append, value-shift, value-field}
-use Rattle.layout.proofs.Bytes.{bits-length}
 use Rattle.laws.proofs.Words.{field-split, field-top, word-value, str-word}
+use Rattle.layout.proofs.Bytes.{areBytes, bits-length}
+use Rattle.layout.proofs.Names.{allShort, named, short-head, short-tail}
+use Rattle.layout.proofs.Sizes.{packed-length}
+use Rattle.layout.proofs.RoundTrip.{packed-unpacked, unpacked-names}
 
 -- ---- bits that stand in one byte
 
@@ -127,3 +133,47 @@ stored-more n s count w words e h f =
     ∙ sym (append-assoc (map wordOf n) (wordOf s ∷ []) (replicate (15 - length n) 0))
     ∙ ap₂ (λ (l : List ℕ) (k : ℕ). l ++ replicate k 0) (sym (map-append wordOf n (s ∷ []))) (let d : 15 - length n ≡ 16 - length (n ++ (s ∷ [])) = omega arith in d) in
     λ i. record { count = sym l i; words = whole i }
+
+-- ---- what is too long to be a packed stamp
+
+pub bytes-are : (b : List ℕ) → ((i : ℕ) → getD b i 0 < 256) → areBytes b ≡ true
+unfolding all
+bytes-are [] h = refl
+bytes-are (x ∷ b) h = and-both (lt-ltb x 256 (h 0)) (bytes-are b (λ i. h (suc i)))
+
+strings-most : (n : Name) → allShort narrow n ≡ true → length (stringsBits narrow n) ≤ length n * 29
+unfolding stringsBits stringBits
+strings-most [] h = omega arith
+strings-most (s ∷ n) h =
+    omega (
+      arith,
+      length-append (stringBits narrow s) (stringsBits narrow n),
+      length-append (field 5 (length s)) s,
+      field-length 5 (length s),
+      short-head narrow s n h,
+      strings-most n (short-tail narrow s n h),
+    )
+
+name-most : (n : Name) → isName narrow n ≡ true → length (nameBits narrow n) ≤ 468
+unfolding nameBits
+name-most n h =
+    let i = named narrow n h in
+    omega (arith, length-append (field 4 (length n - 1)) (stringsBits narrow n), field-length 4 (length n - 1), strings-most n (i .short), i .few)
+
+-- more bytes than the longest stamp has never read
+pub too-long : (b : List ℕ) → areBytes b ≡ true → 117 < length b → unpacked narrow b ≡ none
+unfolding stampBits
+too-long b h l = by (unpacked narrow b) refl
+  where
+    by : (o : Option Stamp) → unpacked narrow b ≡ o → unpacked narrow b ≡ none
+    by none e = e
+    by (some s) e =
+        let n = unpacked-names narrow (lit≤ tt) b s e in
+        absurd (omega (
+          arith,
+          ap length (packed-unpacked narrow b s h e),
+          packed-length narrow s,
+          length-append (nameBits narrow (s .update)) (nameBits narrow (s .id)),
+          name-most (s .update) (n .0),
+          name-most (s .id) (n .1),
+        ))

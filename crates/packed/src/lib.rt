@@ -1,14 +1,88 @@
 // One packed stamp: read from bytes of any content, and written into a lent buffer.
 ghost use mathlib.Core.Path.{_≡_};
+ghost use mathlib.Core.Bool.{true, false, cond};
 ghost use Prim.Native.Nat.{ℕ, _≤_, _<_, _+_, _*_, _-_, _^_, min};
-ghost use mathlib.Core.Bool.{false};
 ghost use lib.ListN.{length, take, drop, replicate};
 ghost use Rattle.rules.specs.Limits.{narrow};
-ghost use Rattle.rules.specs.Strings.{value};
-ghost use Rattle.rules.specs.Packed.{bitsOf};
-ghost use Rattle.packed.specs.Cursors.{StringAt, NameAt};
-use rules::Words;
+ghost use Rattle.rules.specs.Strings.{value, field, strOf};
+ghost use Rattle.rules.specs.Names.{isName};
+ghost use Rattle.rules.specs.Stored.{strsIn, held, blank, isStored};
+ghost use Rattle.rules.specs.Packed.{bitsOf, stringBits, nameBits, packed, over, isFilling, readStamp, writtenStamp};
+ghost use Rattle.rules.specs.declared.Answer.the-variants.{Refused};
+ghost use Rattle.packed.specs.Cursors.{StringAt, NameAt, Told, Ready, Put};
+use rules::{Answer, Given, Record, Refusal, Words, Written};
 use strings::{comes_before, DIGITS};
+
+// A packed stamp has at most so many bytes.
+pub const BYTES: usize = 117;
+
+// The stamp that b packs: refused 1 where the layout does not read, 2 where the stamp is not lawful; then all zeros.
+pub fn read(b: &[u8]) -> Given
+    ensures { λ g. ⌜ g ≡ readStamp narrow (now (b .entry)) ⌝ }
+{
+    if BYTES < b.len() {
+        return refused(Refusal::Malformed);
+    }
+    let u = name_at(b, 0);
+    if !u.ok {
+        return refused(Refusal::Malformed);
+    }
+    let i = name_at(b, u.next);
+    if !i.ok {
+        return refused(Refusal::Malformed);
+    }
+    if !is_filling(b, i.next) {
+        return refused(Refusal::Malformed);
+    }
+    let update = u.name;
+    let id = i.name;
+    let stamp = Record { update, id };
+    if !is_lawful(stamp) {
+        return refused(Refusal::Unlawful);
+    }
+    Given { answer: Answer::Done, stamp }
+}
+
+// The bytes of r at the front of out, and the rest kept: refused 2 where r is unlawful, 10 where out is too short; then nothing is written.
+pub fn write(r: Record, out: &mut [u8]) -> Written
+    ensures { λ w. ⌜ (w ≡ writtenStamp narrow r (now (out .entry)) .answer) × (now (out .exit) ≡ writtenStamp narrow r (now (out .entry)) .out) ⌝ }
+{
+    if !is_lawful(r) {
+        return Written::Refused(Refusal::Unlawful);
+    }
+    let n = bytes_of(r);
+    if out.len() < n {
+        return Written::Refused(Refusal::Short);
+    }
+    put_stamp(out, r);
+    Written::Bytes(n)
+}
+
+// How many bytes r packs to; 0 where r is unlawful.
+pub fn size(r: Record) -> usize
+    ensures { λ n. ⌜ n ≡ cond (isStored narrow r) (length (packed narrow (held r))) 0 ⌝ }
+{
+    if is_lawful(r) {
+        return bytes_of(r);
+    }
+    0
+}
+
+fn is_lawful(r: Record) -> bool
+    ensures { λ b. ⌜ b ≡ isStored narrow r ⌝ }
+{
+    true
+}
+
+// No stamp, and why.
+fn refused(why: Refusal) -> Given
+    ensures { λ g. ⌜ g ≡ record { answer = Refused why; stamp = blank narrow } ⌝ }
+{
+    let words = [0; 16];
+    let none = Words { count: 0, words };
+    let stamp = Record { update: none, id: none };
+    Given { answer: Answer::Refused(why), stamp }
+}
 
 // A string that was read: its word, and the bit behind it.
 struct OneString {
@@ -134,4 +208,103 @@ fn name_at(b: &[u8], pos: usize) -> OneName
     }
     let name = Words { count, words };
     OneName { ok: true, next, name }
+}
+
+// Whether the bits from pos on are a filling: fewer than a byte has, and all zero.
+fn is_filling(b: &[u8], pos: usize) -> bool
+    requires { ⌜ (length (now b) ≤ 117) × (pos ≤ length (now b) * 8) ⌝ }
+    ensures { λ r. ⌜ r ≡ isFilling (drop pos (bitsOf (now (b .entry)))) ⌝ }
+{
+    let left = b.len() * 8 - pos;
+    if left < 8 {
+        return bits_at(b, pos, left) == 0;
+    }
+    false
+}
+
+// Where a writer stands: so many bytes are written, and behind them come `held` bits that say `acc`.
+struct Pen {
+    at: usize,
+    held: usize,
+    acc: u64,
+}
+
+// The w bits that v says, behind what is written; whole bytes go out.
+fn put(out: &mut [u8], p: Pen, w: usize, v: u64) -> Pen
+    requires { ⌜ (w ≤ 32) × (v < 2 ^ w) × Ready p (length (now out)) w ⌝ }
+    ensures { λ q. ⌜ Put p (now (out .entry)) (field w v) q (now (out .exit)) ⌝ }
+{
+    let one: u64 = 1;
+    let mut at = p.at;
+    let mut held = p.held + w;
+    let mut acc = (p.acc << w) + v;
+    while 8 <= held {
+        held -= 8;
+        out[at] = (acc >> held) as u8;
+        acc = acc % (one << held);
+        at += 1;
+    }
+    Pen { at, held, acc }
+}
+
+// The string of the word s, behind what is written: its length, then its digits.
+fn put_string(out: &mut [u8], p: Pen, s: u64) -> Pen
+    requires { ⌜ (length (strOf s) ≤ 24) × Ready p (length (now out)) (length (stringBits narrow (strOf s))) ⌝ }
+    ensures { λ q. ⌜ Put p (now (out .entry)) (stringBits narrow (strOf s)) q (now (out .exit)) ⌝ }
+{
+    let n = s % 64;
+    let digits = (s >> 40) >> (24 - n);
+    put(out, p, n as usize + 5, (n << n) + digits)
+}
+
+// The name n, behind what is written: its count less one, then each string.
+fn put_name(out: &mut [u8], p: Pen, n: Words) -> Pen
+    requires { ⌜ Told n × Ready p (length (now out)) (length (nameBits narrow (strsIn n))) ⌝ }
+    ensures { λ q. ⌜ Put p (now (out .entry)) (nameBits narrow (strsIn n)) q (now (out .exit)) ⌝ }
+{
+    let c = n.count;
+    let mut q = put(out, p, 4, (c - 1) as u64);
+    let mut i = 0;
+    while i < c {
+        q = put_string(out, q, n.words[i]);
+        i += 1;
+    }
+    q
+}
+
+// The stamp r at the front of out: both names, and zeros up to a whole byte.
+fn put_stamp(out: &mut [u8], r: Record)
+    requires { ⌜ Told (r .update) × Told (r .id) × (length (packed narrow (held r)) ≤ length (now out)) ⌝ }
+    ensures { λ _. ⌜ now (out .exit) ≡ over (packed narrow (held r)) (now (out .entry)) ⌝ }
+{
+    let start = Pen { at: 0, held: 0, acc: 0 };
+    let u = put_name(out, start, r.update);
+    let i = put_name(out, u, r.id);
+    let left = (8 - i.held) % 8;
+    let end = put(out, i, left, 0);
+}
+
+// How many bits the name n takes: its count, and each string behind its length.
+fn bits_of(n: Words) -> usize
+    requires { ⌜ Told n ⌝ }
+    ensures { λ r. ⌜ r ≡ length (nameBits narrow (strsIn n)) ⌝ }
+{
+    let c = n.count;
+    let mut sum = 4;
+    let mut i = 0;
+    while i < c {
+        sum += 5 + (n.words[i] % 64) as usize;
+        i += 1;
+    }
+    sum
+}
+
+// How many bytes the stamp r takes.
+fn bytes_of(r: Record) -> usize
+    requires { ⌜ Told (r .update) × Told (r .id) ⌝ }
+    ensures { λ n. ⌜ n ≡ length (packed narrow (held r)) ⌝ }
+{
+    let u = bits_of(r.update);
+    let i = bits_of(r.id);
+    (u + i + 7) / 8
 }
