@@ -1,5 +1,5 @@
 -- Packed stamps and bytes that read are one to one. Writing then reading gives a lawful stamp back, and no other stamp has its bytes;
--- reading then writing gives the bytes back, and no other bytes read as that stamp. Assumes for the latter that a word tells its string.
+-- reading then writing gives the bytes back, and no other bytes read as that stamp. Assumes nothing.
 use mathlib.Core.Path.{_≡_, refl, sym, ap, ap₂, _∙_}
 use mathlib.Core.Bool.{Bool, true, false}
 use mathlib.Core.List.{List, [], _∷_, map}
@@ -19,6 +19,7 @@ use Rattle.rules.specs.Packed.{stampBits, packed, bitsOf, Taken, takeStamp, isF
 use Rattle.rules.specs.Promises.{WriteRead, ReadWrite}
 use Rattle.rules.specs.declared.Answer.{Answer}
 use Rattle.rules.specs.declared.Answer.the-variants.{Done, Refused}
+use Rattle.laws.proofs.Words.{str-word}
 use Rattle.laws.proofs.Tests.{no}
 use Rattle.layout.proofs.Bytes.{areBytes, fillingOf, packed-bits, filling-is, pack-of-bits}
 use Rattle.layout.proofs.Fields.{let-through}
@@ -88,7 +89,7 @@ module _ (L : Limits) where
 
   -- ---- the record that was read
 
-  module _ (str-word : (s : Str) → length s ≤ 58 → strOf (wordOf s) ≡ s) (room : L .digits ≤ 58) where
+  module _ (room : L .digits ≤ 58) where
     strs-words : (n : Name) → allShort L n ≡ true → map strOf (map wordOf n) ≡ n
     strs-words [] h = refl
     strs-words (s ∷ n) h =
@@ -118,5 +119,5 @@ module _ (L : Limits) where
 pub narrow-write-read : WriteRead narrow
 narrow-write-read = write-read narrow narrow-fits
 
-pub narrow-read-write : ((s : Str) → length s ≤ 58 → strOf (wordOf s) ≡ s) → ReadWrite narrow
-narrow-read-write str-word = read-write narrow str-word (lit≤ tt)
+pub narrow-read-write : ReadWrite narrow
+narrow-read-write = read-write narrow (lit≤ tt)

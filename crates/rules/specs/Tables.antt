@@ -2,13 +2,13 @@
 -- "Order on tables: 12 for size, 3 first slot, 3 second, 4, 12 first stamp, 12 second, 8, 9, 5, 6, 7."
 use mathlib.Core.Bool.{Bool, true, false, cond, not, _&&_, _||_}
 use mathlib.Core.List.{List, [], _∷_}
-use Prim.Native.Nat.{ℕ, zero, suc}
+use Prim.Native.Nat.{ℕ, zero, suc, _+_}
 use lib.Dec.{eqb, leb, ltb}
 use lib.ListN.{length, getD, set, replicate}
 use Rattle.rules.specs.Limits.{Limits, records}
 use Rattle.rules.specs.Stamps.{Stamp, start, update, fork, join, compare}
 use Rattle.rules.specs.Stored.{stored, held, unlawful, blank, absent}
-use Rattle.rules.specs.Refusals.{first, long, many, overlap, unseen}
+use Rattle.rules.specs.Refusals.{number, first, long, many, overlap, unseen}
 use Rattle.rules.specs.Values.{told}
 use Rattle.rules.specs.declared.Record.{Record}
 use Rattle.rules.specs.declared.Verdict.{Verdict}
@@ -146,3 +146,14 @@ sparedAfter (Refused r) s = NotTold r
 -- "Slot a is spare when it is obsolete relative to some other present slot"
 unfoldable pub spareAt : Limits → Table → ℕ → Spared
 spareAt L t a = sparedAfter (first (oneSlot L t a [])) (spareFrom L (stampAt t a) a 0 t)
+
+-- ---- the answers as numbers: the slot, 0 kept and 1 spare; a refusal is 1,000 plus its number
+
+abbrev pub slotNumber : Slot → ℕ
+slotNumber (At a) = a
+slotNumber (NoSlotGiven r) = 1000 + number r
+
+abbrev pub sparedNumber : Spared → ℕ
+sparedNumber Kept = 0
+sparedNumber Spare = 1
+sparedNumber (NotTold r) = 1000 + number r
