@@ -2,16 +2,17 @@
 -- Assumes nothing.
 use mathlib.Core.Path.{_≡_, refl, sym, ap, ap₂, _∙_}
 use mathlib.Core.Bool.{Bool, true}
-use mathlib.Core.List.{List, [], _∷_, _++_, append-assoc, map, map-append}
+use mathlib.Core.List.{List, [], _∷_, _++_, append-assoc, append-nil, map, map-append}
 use mathlib.Core.Option.{Option, none, some}
 use Prim.Native.Nat.{ℕ, zero, suc, _+_, _*_, _-_, _/_, _%_, _^_, _≤_, _<_}
 use native.Mathlib.Nat.{le-of-suc-le-suc, not-suc-le-zero, mul-le-mul-right, suc-mul}
+use native.Mathlib.Numerals.{add-one}
 use native.Mathlib.Omega.{arith}
 use borrow.Author.Tests.{le-leb, lt-leb, lt-ltb}
 use lib.Dec.{lit≤}
-use lib.Pow.{pow-add, shl-exact}
+use lib.Pow.{pow-add, shl-exact, high, low}
 use lib.ListN.{length, getD, set, take, drop, replicate, length-append, length-drop, length-map}
-use lib.Seq.{take-at, drop-at, take-append-le, drop-append-le, drop-drop, take-add, set-at, length-take-le}
+use lib.Seq.{take-at, drop-at, take-append-le, drop-append-le, drop-drop, take-add, take-suc-set, set-at, length-take-le}
 use Rattle.rules.specs.Limits.{narrow}
 use Rattle.rules.specs.Strings.{Str, field, valueFrom, value, aligned, wordOf, strOf}
 use Rattle.rules.specs.Names.{Name, all, isName}
@@ -21,7 +22,7 @@ use Rattle.rules.specs.Packed.{stringBits, stringsBits, nameBits, stampBits, bi
 use Rattle.rules.specs.declared.Words.{Words}
 use Rattle.laws.proofs.Tests.{and-both}
 use Rattle.laws.proofs.Bits.{field-length, value-append, value-shift, value-field}
-use Rattle.laws.proofs.Words.{field-split, field-top, word-value, str-word}
+use Rattle.laws.proofs.Words.{field-low, field-split, field-top, word-value, str-word}
 use Rattle.layout.proofs.Bytes.{areBytes, bits-length}
 use Rattle.layout.proofs.Names.{allShort, named, short-head, short-tail}
 use Rattle.layout.proofs.Sizes.{packed-length}
@@ -116,6 +117,35 @@ word-tells s w h e =
     let t : strOf w ≡ s = ap strOf e ∙ str-word s (omega arith) in
     (t, ap wordOf t ∙ sym e)
 
+-- ---- bits behind bits
+
+-- a number with w bits below it
+pub field-join : (h w a v : ℕ) → v < 2 ^ w → field (h + w) (a * 2 ^ w + v) ≡ field h a ++ field w v
+field-join h w a v l =
+    field-split h w (a * 2 ^ w + v)
+    ∙ ap₂ (λ (s t : List Bool). s ++ t) (ap (field h) (high a w l)) (sym (field-low w (a * 2 ^ w + v)) ∙ ap (field w) (low a w l))
+
+pub bits-append : (a b : List ℕ) → bitsOf (a ++ b) ≡ bitsOf a ++ bitsOf b
+unfolding bitsOf
+bits-append [] b = refl
+bits-append (x ∷ a) b = ap (λ (s : List Bool). field 8 x ++ s) (bits-append a b) ∙ sym (append-assoc (field 8 x) (bitsOf a) (bitsOf b))
+
+-- the eight highest of the bits that are held go out as a byte
+pub byte-out : (l : List ℕ) (at h acc : ℕ) → at < length l
+    → bitsOf (take (at + 1) (set l at (acc / 2 ^ h))) ++ field h (acc % 2 ^ h) ≡ bitsOf (take at l) ++ field (8 + h) acc
+unfolding bitsOf
+byte-out l at h acc r =
+    let x = acc / 2 ^ h in
+    ap₂ (λ (s t : List Bool). s ++ t)
+    (ap (λ (n : ℕ). bitsOf (take n (set l at x))) (add-one at) ∙ ap bitsOf (take-suc-set l at x r) ∙ bits-append (take at l) (x ∷ [])
+    ∙ ap (λ (s : List Bool). bitsOf (take at l) ++ s) (append-nil (field 8 x)))
+    (field-low h acc)
+    ∙ append-assoc (bitsOf (take at l)) (field 8 x) (field h acc) ∙ ap (λ (s : List Bool). bitsOf (take at l) ++ s) (sym (field-split 8 h acc))
+
+-- a one at bit k
+pub mask : (k : ℕ) → k < 64 → (1 * 2 ^ k) % 2 ^ 64 ≡ 2 ^ k
+mask k h = shl-exact {a = 1} 1 k 64 (omega arith) (omega arith) ∙ omega arith
+
 -- ---- the record of the strings so far
 
 -- a string more is one more word, in the place of a zero
@@ -141,24 +171,26 @@ unfolding all
 bytes-are [] h = refl
 bytes-are (x ∷ b) h = and-both (lt-ltb x 256 (h 0)) (bytes-are b (λ i. h (suc i)))
 
-strings-most : (n : Name) → allShort narrow n ≡ true → length (stringsBits narrow n) ≤ length n * 29
+pub strings-length : (s : Str) (n : Name) → length (stringsBits narrow (s ∷ n)) ≡ 5 + length s + length (stringsBits narrow n)
 unfolding stringsBits stringBits
+strings-length s n =
+    length-append (stringBits narrow s) (stringsBits narrow n)
+    ∙ ap (λ (k : ℕ). k + length (stringsBits narrow n)) (length-append (field 5 (length s)) s ∙ ap (λ (k : ℕ). k + length s) (field-length 5 (length s)))
+
+pub name-length : (n : Name) → length (nameBits narrow n) ≡ 4 + length (stringsBits narrow n)
+unfolding nameBits
+name-length n =
+    length-append (field 4 (length n - 1)) (stringsBits narrow n) ∙ ap (λ (k : ℕ). k + length (stringsBits narrow n)) (field-length 4 (length n - 1))
+
+strings-most : (n : Name) → allShort narrow n ≡ true → length (stringsBits narrow n) ≤ length n * 29
+unfolding stringsBits
 strings-most [] h = omega arith
-strings-most (s ∷ n) h =
-    omega (
-      arith,
-      length-append (stringBits narrow s) (stringsBits narrow n),
-      length-append (field 5 (length s)) s,
-      field-length 5 (length s),
-      short-head narrow s n h,
-      strings-most n (short-tail narrow s n h),
-    )
+strings-most (s ∷ n) h = omega (arith, strings-length s n, short-head narrow s n h, strings-most n (short-tail narrow s n h))
 
 name-most : (n : Name) → isName narrow n ≡ true → length (nameBits narrow n) ≤ 468
-unfolding nameBits
 name-most n h =
     let i = named narrow n h in
-    omega (arith, length-append (field 4 (length n - 1)) (stringsBits narrow n), field-length 4 (length n - 1), strings-most n (i .short), i .few)
+    omega (arith, name-length n, strings-most n (i .short), i .few)
 
 -- more bytes than the longest stamp has never read
 pub too-long : (b : List ℕ) → areBytes b ≡ true → 117 < length b → unpacked narrow b ≡ none

@@ -1,13 +1,12 @@
 -- What the private readers and writers say of where they stand: a reader at a bit of the bytes, a writer behind the bits that are written.
 use mathlib.Core.Path.{_≡_}
-use mathlib.Core.Bool.{Bool, true, cond}
+use mathlib.Core.Bool.{Bool, cond}
 use mathlib.Core.List.{List, _++_}
 use mathlib.Core.Option.{none, some}
 use Prim.Native.Nat.{ℕ, _+_, _*_, _^_, _≤_, _<_}
 use lib.ListN.{length, take, drop}
 use Rattle.rules.specs.Limits.{narrow}
 use Rattle.rules.specs.Strings.{field, strOf, wordOf}
-use Rattle.rules.specs.Names.{isName}
 use Rattle.rules.specs.Stored.{wordsOf, strsIn}
 use Rattle.rules.specs.Packed.{bitsOf, takeString, takeName}
 use Rattle.rules.specs.declared.Words.{Words}
@@ -26,11 +25,6 @@ pub record NameAt (b : List ℕ) (pos : ℕ) (ok : Bool) (next : ℕ) (name : Wo
   pub inside : next ≤ length b * 8
 
 -- ---- writing
-
--- the record tells a name, and its count says how many strings
-pub record Told (n : Words) : Type 0 where
-  pub count : length (strsIn n) ≡ n .count
-  pub name : isName narrow (strsIn n) ≡ true
 
 -- the bits that are written: those of whole bytes, and those that are held
 abbrev pub written : Pen → List ℕ → List Bool

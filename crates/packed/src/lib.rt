@@ -5,12 +5,12 @@ ghost use Prim.Native.Nat.{ℕ, _≤_, _<_, _+_, _*_, _-_, _^_, min};
 ghost use lib.ListN.{length, take, drop, replicate};
 ghost use Rattle.rules.specs.Limits.{narrow};
 ghost use Rattle.rules.specs.Strings.{value, field, strOf};
-ghost use Rattle.rules.specs.Names.{isName};
-ghost use Rattle.rules.specs.Stored.{strsIn, held, blank, isStored};
+ghost use Rattle.rules.specs.Stored.{strsIn, held, blank, isStoredName, isStored};
 ghost use Rattle.rules.specs.Packed.{bitsOf, stringBits, nameBits, packed, over, isFilling, readStamp, writtenStamp};
 ghost use Rattle.rules.specs.declared.Answer.the-variants.{Refused};
-ghost use Rattle.packed.specs.Cursors.{StringAt, NameAt, Told, Ready, Put};
+ghost use Rattle.packed.specs.Cursors.{StringAt, NameAt, Ready, Put};
 use rules::{Answer, Given, Record, Refusal, Words, Written};
+use stamps::is_lawful;
 use strings::{comes_before, DIGITS};
 
 // A packed stamp has at most so many bytes.
@@ -66,12 +66,6 @@ pub fn size(r: Record) -> usize
         return bytes_of(r);
     }
     0
-}
-
-fn is_lawful(r: Record) -> bool
-    ensures { λ b. ⌜ b ≡ isStored narrow r ⌝ }
-{
-    true
 }
 
 // No stamp, and why.
@@ -259,7 +253,7 @@ fn put_string(out: &mut [u8], p: Pen, s: u64) -> Pen
 
 // The name n, behind what is written: its count less one, then each string.
 fn put_name(out: &mut [u8], p: Pen, n: Words) -> Pen
-    requires { ⌜ Told n × Ready p (length (now out)) (length (nameBits narrow (strsIn n))) ⌝ }
+    requires { ⌜ (isStoredName narrow n ≡ true) × Ready p (length (now out)) (length (nameBits narrow (strsIn n))) ⌝ }
     ensures { λ q. ⌜ Put p (now (out .entry)) (nameBits narrow (strsIn n)) q (now (out .exit)) ⌝ }
 {
     let c = n.count;
@@ -274,7 +268,7 @@ fn put_name(out: &mut [u8], p: Pen, n: Words) -> Pen
 
 // The stamp r at the front of out: both names, and zeros up to a whole byte.
 fn put_stamp(out: &mut [u8], r: Record)
-    requires { ⌜ Told (r .update) × Told (r .id) × (length (packed narrow (held r)) ≤ length (now out)) ⌝ }
+    requires { ⌜ (isStored narrow r ≡ true) × (length (packed narrow (held r)) ≤ length (now out)) ⌝ }
     ensures { λ _. ⌜ now (out .exit) ≡ over (packed narrow (held r)) (now (out .entry)) ⌝ }
 {
     let start = Pen { at: 0, held: 0, acc: 0 };
@@ -286,7 +280,7 @@ fn put_stamp(out: &mut [u8], r: Record)
 
 // How many bits the name n takes: its count, and each string behind its length.
 fn bits_of(n: Words) -> usize
-    requires { ⌜ Told n ⌝ }
+    requires { ⌜ isStoredName narrow n ≡ true ⌝ }
     ensures { λ r. ⌜ r ≡ length (nameBits narrow (strsIn n)) ⌝ }
 {
     let c = n.count;
@@ -301,7 +295,7 @@ fn bits_of(n: Words) -> usize
 
 // How many bytes the stamp r takes.
 fn bytes_of(r: Record) -> usize
-    requires { ⌜ Told (r .update) × Told (r .id) ⌝ }
+    requires { ⌜ isStored narrow r ≡ true ⌝ }
     ensures { λ n. ⌜ n ≡ length (packed narrow (held r)) ⌝ }
 {
     let u = bits_of(r.update);

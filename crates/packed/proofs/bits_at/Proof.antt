@@ -9,7 +9,7 @@ use lib.Pow.{pow-pos, pow-mono, shl-exact}
 use lib.ListN.{take, drop}
 use Rattle.rules.specs.Strings.{valueFrom, value}
 use Rattle.rules.specs.Packed.{bitsOf}
-use Rattle.packed.proofs.Laws.{part-step, part-room}
+use Rattle.packed.proofs.Laws.{mask, part-step, part-room}
 use Rattle.packed.proofs.bits_at.Statement.{statement}
 use Rattle.packed.proofs.bits_at.Tie as tie
 
@@ -20,12 +20,9 @@ Inv-loop b pos w acc₀ at₀ left₀ acc at left =
 abbrev μ-loop : tie.MeasureT-loop
 μ-loop b pos w acc₀ at₀ left₀ acc at left = left
 
-mask : (k : ℕ) → k ≤ 8 → (1 * 2 ^ k) % 2 ^ 64 ≡ 2 ^ k
-mask k h = shl-exact {a = 1} 1 k 64 (omega arith) (omega arith) ∙ omega arith
-
 -- what the machine's shifts and sum say
 sum-is : (acc d k x : ℕ) → acc < 2 ^ d → d + k ≤ 24 → k ≤ 8 → (acc * 2 ^ k) % 2 ^ 64 + x % ((1 * 2 ^ k) % 2 ^ 64) ≡ acc * 2 ^ k + x % 2 ^ k
-sum-is acc d k x h l e = ap₂ (λ (m n : ℕ). m + x % n) (shl-exact d k 64 h (omega arith)) (mask k e)
+sum-is acc d k x h l e = ap₂ (λ (m n : ℕ). m + x % n) (shl-exact d k 64 h (omega arith)) (mask k (omega arith))
 
 sum-lt : (acc d k x : ℕ) → acc < 2 ^ d → d + k ≤ 24 → k ≤ 8 → (acc * 2 ^ k) % 2 ^ 64 + x % ((1 * 2 ^ k) % 2 ^ 64) < 2 ^ (d + k)
 sum-lt acc d k x h l e = rw (sum-is acc d k x h l e) (part-room acc d k (x % 2 ^ k) h (mod-lt x (pow-pos k)))

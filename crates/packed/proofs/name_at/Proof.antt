@@ -19,7 +19,6 @@ use Rattle.rules.specs.Stored.{wordsOf, strsIn}
 use Rattle.rules.specs.Packed.{bitsOf, Taken, thenTake, takeBits, takeNumber, takeString, takeMore, takeName}
 use Rattle.rules.specs.declared.Words.{Words}
 use Rattle.laws.proofs.Bits.{value-lt}
-use Rattle.laws.proofs.Words.{str-word}
 use Rattle.layout.proofs.Fields.{go-on}
 use Rattle.layout.proofs.Names.{took-name}
 use Rattle.layout.proofs.RoundTrip.{strs-in}
@@ -149,7 +148,7 @@ ended b pos k last next words e s =
     let r : takeName narrow (drop pos (bitsOf b)) ≡ some (s .name, drop next (bitsOf b)) =
     s .reads ∙ ap (λ (n : ℕ). onward (s .name) (takeMore narrow n (strOf last) (drop next (bitsOf b)))) e
     ∙ ap (λ (m : Name). some (m, drop next (bitsOf b))) (append-nil (s .name)) in
-    let t : strsIn words ≡ s .name = ap strsIn (s .shape) ∙ strs-in narrow str-word (lit≤ tt) (s .name) (took-name narrow _ (s .name) _ r .short) in
+    let t : strsIn words ≡ s .name = ap strsIn (s .shape) ∙ strs-in narrow (lit≤ tt) (s .name) (took-name narrow _ (s .name) _ r .short) in
     record {
       reads = r ∙ ap (λ (m : Name). some (m, drop next (bitsOf b))) (sym t);
       whole = ap (wordsOf narrow) t ∙ sym (s .shape);

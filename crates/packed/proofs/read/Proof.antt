@@ -1,19 +1,19 @@
 -- `packed::read` meets its contract: each test of the code is the one that the reader of bits makes there, and a record that was read
 -- is the stored shape of its stamp, so that only the stamp decides whether it is lawful. Assumes nothing.
 use mathlib.Core.Path.{_≡_, refl, sym, ap, ap₂, _∙_}
-use mathlib.Core.Bool.{Bool, true, false, cond, not, _&&_}
+use mathlib.Core.Bool.{Bool, true, false, cond, _&&_, and-true}
 use mathlib.Core.List.{List, [], _∷_}
 use mathlib.Core.Option.{Option, none, some}
 use Prim.Native.Nat.{ℕ, _+_, _*_, _-_, _≤_, _<_}
 use native.Mathlib.Omega.{arith}
 use borrow.Author.Needs.{needs}
-use borrow.Author.Tests.{eq-eqb, not-true, not-false}
+use borrow.Author.Tests.{not-true, not-false}
 use lib.Dec.{lit≤}
 use lib.ListN.{length, getD, drop}
 use Rattle.rules.specs.Limits.{narrow}
 use Rattle.rules.specs.Names.{Name}
 use Rattle.rules.specs.Stamps.{Stamp, lawful}
-use Rattle.rules.specs.Stored.{wordsOf, stored, strsIn, held, sameNumbers, sameWords, sameRecord, isStored, blank}
+use Rattle.rules.specs.Stored.{wordsOf, stored, strsIn, held, sameRecord, isStored, blank}
 use Rattle.rules.specs.Refusals.{first}
 use Rattle.rules.specs.Packed.{bitsOf, takeName, takeStamp, isFilling, filledOnly, unpacked, readAs, readStamp}
 use Rattle.rules.specs.declared.Words.{Words}
@@ -22,6 +22,7 @@ use Rattle.rules.specs.declared.Given.{Given}
 use Rattle.rules.specs.declared.Refusal.the-variants.{Malformed, Unlawful}
 use Rattle.rules.specs.declared.Answer.the-variants.{Done, Refused}
 use Rattle.laws.proofs.Tests.{and-both}
+use Rattle.names.proofs.Shape.{words-refl}
 use Rattle.packed.specs.Cursors.{NameAt}
 use Rattle.packed.proofs.Laws.{too-long, bytes-are}
 use Rattle.packed.proofs.read.Statement.{statement}
@@ -29,7 +30,7 @@ use Rattle.packed.proofs.read.Tie as tie
 use Rattle.packed.proofs.read.Reads as reads
 use Rattle.packed.proofs.read.Lts as lts
 use Rattle.packed.proofs.is_filling.Reads as is-filling-reads
-use Rattle.packed.proofs.is_lawful.Reads as is-lawful-reads
+use Rattle.stamps.proofs.is_lawful.Reads as is-lawful-reads
 use Rattle.packed.proofs.name_at.Reads as name-at-reads
 use Rattle.packed.proofs.refused.Reads as refused-reads
 
@@ -57,24 +58,11 @@ both b r next end full e f g = simp (e, f, sym g)
 
 -- ---- a record that was read
 
-same-numbers : (l : List ℕ) → sameNumbers l l ≡ true
-unfolding sameNumbers
-same-numbers [] = refl
-same-numbers (x ∷ l) = and-both (eq-eqb x x refl) (same-numbers l)
-
-same-words : (w : Words) → sameWords w w ≡ true
-unfolding sameWords
-same-words w = and-both (eq-eqb (w .count) (w .count) refl) (same-numbers (w .words))
-
-and-true : (a : Bool) → (a && true) ≡ a
-and-true true = refl
-and-true false = refl
-
 stored-test : (r : Record) → stored narrow (held r) ≡ r → isStored narrow r ≡ lawful narrow (held r)
 unfolding isStored sameRecord
 stored-test r e =
     ap (λ (x : Record). lawful narrow (held r) && sameRecord r x) e
-    ∙ ap (λ (x : Bool). lawful narrow (held r) && x) (and-both (same-words (r .update)) (same-words (r .id))) ∙ and-true (lawful narrow (held r))
+    ∙ ap (λ (x : Bool). lawful narrow (held r) && x) (and-both (words-refl (r .update)) (words-refl (r .id))) ∙ and-true (lawful narrow (held r))
 
 -- the stamp that reads, and what its record decides
 judged : (b : List ℕ) (r : Record) (next end : ℕ) (fine : Bool) → NameAt b 0 true next (r .update) → NameAt b next true end (r .id)
