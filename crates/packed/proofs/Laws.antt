@@ -26,6 +26,8 @@ use Rattle.laws.proofs.Words.{field-low, field-split, field-top, word-value, st
 use Rattle.layout.proofs.Bytes.{areBytes, bits-length}
 use Rattle.layout.proofs.Names.{allShort, named, short-head, short-tail}
 use Rattle.layout.proofs.Sizes.{packed-length}
+use Rattle.packed.specs.Cursors.{written, Put}
+use Rattle.packed.specs.declared.Pen.{Pen}
 use Rattle.layout.proofs.RoundTrip.{packed-unpacked, unpacked-names}
 
 -- ---- bits that stand in one byte
@@ -142,6 +144,27 @@ byte-out l at h acc r =
     (field-low h acc)
     ∙ append-assoc (bitsOf (take at l)) (field 8 x) (field h acc) ∙ ap (λ (s : List Bool). bitsOf (take at l) ++ s) (sym (field-split 8 h acc))
 
+-- where two lists agree they agree further on
+drop-on : (i j : ℕ) (l m : List ℕ) → i ≤ j → drop i l ≡ drop i m → drop j l ≡ drop j m
+drop-on i j l m h e =
+    let further : i + (j - i) ≡ j = omega arith in
+    ap (λ (k : ℕ). drop k l) (sym further) ∙ sym (drop-drop (j - i) i l) ∙ ap (drop (j - i)) e ∙ drop-drop (j - i) i m ∙ ap (λ (k : ℕ). drop k m) further
+
+-- what is put behind what was put
+pub put-on : (p : Pen) (l : List ℕ) (a : List Bool) (q : Pen) (m : List ℕ) (b : List Bool) (r : Pen) (n : List ℕ)
+    → Put p l a q m → Put q m b r n → Put p l (a ++ b) r n
+put-on p l a q m b r n s t =
+    record {
+      bits = t .bits ∙ ap (λ (x : List Bool). x ++ b) (s .bits) ∙ append-assoc (written p l) a b;
+      kept = t .kept ∙ drop-on (q .at) (r .at) m l (omega (arith, t .moved, t .few)) (s .kept);
+      few = t .few;
+      small = t .small;
+      moved = t .moved ∙ omega (arith, s .moved, length-append a b);
+    }
+
+pub put-none : (p : Pen) (l : List ℕ) → p .held < 8 → p .acc < 2 ^ p .held → Put p l [] p l
+put-none p l few small = record { bits = sym (append-nil (written p l)); kept = refl; few = few; small = small; moved = omega arith }
+
 -- a one at bit k
 pub mask : (k : ℕ) → k < 64 → (1 * 2 ^ k) % 2 ^ 64 ≡ 2 ^ k
 mask k h = shl-exact {a = 1} 1 k 64 (omega arith) (omega arith) ∙ omega arith
@@ -171,11 +194,13 @@ unfolding all
 bytes-are [] h = refl
 bytes-are (x ∷ b) h = and-both (lt-ltb x 256 (h 0)) (bytes-are b (λ i. h (suc i)))
 
+pub string-length : (s : Str) → length (stringBits narrow s) ≡ 5 + length s
+unfolding stringBits
+string-length s = length-append (field 5 (length s)) s ∙ ap (λ (k : ℕ). k + length s) (field-length 5 (length s))
+
 pub strings-length : (s : Str) (n : Name) → length (stringsBits narrow (s ∷ n)) ≡ 5 + length s + length (stringsBits narrow n)
-unfolding stringsBits stringBits
-strings-length s n =
-    length-append (stringBits narrow s) (stringsBits narrow n)
-    ∙ ap (λ (k : ℕ). k + length (stringsBits narrow n)) (length-append (field 5 (length s)) s ∙ ap (λ (k : ℕ). k + length s) (field-length 5 (length s)))
+unfolding stringsBits
+strings-length s n = length-append (stringBits narrow s) (stringsBits narrow n) ∙ ap (λ (k : ℕ). k + length (stringsBits narrow n)) (string-length s)
 
 pub name-length : (n : Name) → length (nameBits narrow n) ≡ 4 + length (stringsBits narrow n)
 unfolding nameBits

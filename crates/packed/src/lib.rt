@@ -248,7 +248,7 @@ fn put_string(out: &mut [u8], p: Pen, s: u64) -> Pen
 {
     let n = s % 64;
     let digits = (s >> 40) >> (24 - n);
-    put(out, p, n as usize + 5, (n << n) + digits)
+    put(out, p, 5 + n as usize, (n << n) + digits)
 }
 
 // The name n, behind what is written: its count less one, then each string.

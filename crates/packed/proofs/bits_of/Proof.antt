@@ -26,7 +26,7 @@ abbrev μ-loop : tie.MeasureT-loop
 μ-loop n c sum₀ i₀ sum i = c - i
 
 loop-holds : tie.Need-loop-holds Inv-loop μ-loop
-loop-holds c = ?
+loop-holds c = (search needs, stored-few narrow (c .args .t1) (c .pre), search needs, sym (name-length (strsIn (c .args .t1))))
 
 mul-sum : tie.Need-mul-sum Inv-loop μ-loop
 mul-sum c = search needs
@@ -47,10 +47,28 @@ loop-less : tie.Need-loop-less Inv-loop μ-loop
 loop-less c = search needs
 
 loop-again : tie.Need-loop-again Inv-loop μ-loop
-loop-again c = ?
+loop-again c =
+    let l = c .before .before in
+    let n = l .before .args .t1 in
+    let w = getD (n .words) (l .loop .i) 0 in
+    (
+      search needs,
+      search needs,
+      omega arith,
+      omega (
+        arith,
+        ap (λ (m : Name). length (stringsBits narrow m)) (stored-cons narrow n (l .before .pre) (l .loop .i) (omega arith)),
+        strings-length (strOf w) (drop (l .loop .i + 1) (strsIn n)),
+        str-length w,
+      ),
+    )
 
 returns : tie.Need-returns Inv-loop μ-loop
-returns c = ?
+unfolding stringsBits
+returns c =
+    let l = c .before in
+    let n = l .before .args .t1 in
+    omega (arith, ap (λ (m : Name). length (stringsBits narrow m)) (stored-end narrow n (l .before .pre) (l .loop .i) (omega arith)))
 
 pub bits-of-spec : {M : Type 1} → statement M
 bits-of-spec =
