@@ -1,27 +1,28 @@
 -- Fields of bits in bytes, each law over every width: a number read by parts of bytes, a string read from the bits behind a position.
 -- Assumes nothing.
 use mathlib.Core.Path.{_≡_, refl, sym, ap, ap₂, _∙_}
-use mathlib.Core.Bool.{Bool, true}
+use mathlib.Core.Bool.{Bool, true, false, not}
 use mathlib.Core.List.{List, [], _∷_, _++_, append-assoc, append-nil, map, map-append}
 use mathlib.Core.Option.{Option, none, some}
 use Prim.Native.Nat.{ℕ, zero, suc, _+_, _*_, _-_, _/_, _%_, _^_, _≤_, _<_}
 use native.Mathlib.Nat.{le-of-suc-le-suc, not-suc-le-zero, mul-le-mul-right, suc-mul}
 use native.Mathlib.Numerals.{add-one}
 use native.Mathlib.Omega.{arith}
-use borrow.Author.Tests.{le-leb, lt-leb, lt-ltb}
-use lib.Dec.{lit≤}
-use lib.Pow.{pow-add, shl-exact, high, low}
+use borrow.Author.Tests.{le-leb, lt-leb, lt-ltb, eq-eqb, ne-eqb}
+use lib.Dec.{eqb, ltb, lit≤}
+use lib.Pow.{pow-pos, pow-add, shl-exact, high, low}
 use lib.ListN.{length, getD, set, take, drop, replicate, length-append, length-drop, length-map}
 use lib.Seq.{take-at, drop-at, take-append-le, drop-append-le, drop-drop, take-add, take-suc-set, set-at, length-take-le}
-use Rattle.rules.specs.Limits.{narrow}
+use Rattle.rules.specs.Limits.{narrow, bytesFor}
 use Rattle.rules.specs.Strings.{Str, field, valueFrom, value, aligned, wordOf, strOf}
-use Rattle.rules.specs.Names.{Name, all, isName}
+use Rattle.rules.specs.Names.{Name, any, all, isName}
 use Rattle.rules.specs.Stamps.{Stamp}
-use Rattle.rules.specs.Stored.{wordsOf}
-use Rattle.rules.specs.Packed.{stringBits, stringsBits, nameBits, stampBits, bitsOf, takeBits, takeNumber, takeString, unpacked}
+use Rattle.rules.specs.Stored.{wordsOf, strsIn, held}
+use Rattle.rules.specs.Packed.{stringBits, stringsBits, nameBits, stampBits, packed, bitsOf, takeBits, takeNumber, takeString, isFilling, unpacked}
 use Rattle.rules.specs.declared.Words.{Words}
-use Rattle.laws.proofs.Tests.{and-both}
-use Rattle.laws.proofs.Bits.{field-length, value-append, value-shift, value-field}
+use Rattle.rules.specs.declared.Record.{Record}
+use Rattle.laws.proofs.Tests.{and-left, and-right, and-both}
+use Rattle.laws.proofs.Bits.{field-length, value-append, value-shift, value-field, value-field-exact}
 use Rattle.laws.proofs.Words.{field-low, field-split, field-top, word-value, str-word}
 use Rattle.layout.proofs.Bytes.{areBytes, bits-length}
 use Rattle.layout.proofs.Names.{allShort, named, short-head, short-tail}
@@ -119,6 +120,23 @@ word-tells s w h e =
     let t : strOf w ≡ s = ap strOf e ∙ str-word s (omega arith) in
     (t, ap wordOf t ∙ sym e)
 
+-- ---- fillings
+
+-- bits are all zero exactly when the number that they say is
+zero-bits : (s : List Bool) → eqb (value s) 0 ≡ not (any (λ (x : Bool). x) s)
+unfolding any valueFrom
+zero-bits [] = refl
+zero-bits (true ∷ s) = ne-eqb (valueFrom 1 s) 0 (λ e. omega (arith, value-shift 1 s, pow-pos (length s)))
+zero-bits (false ∷ s) = zero-bits s
+
+pub filling-value : (s : List Bool) → length s < 8 → eqb (value s) 0 ≡ isFilling s
+unfolding isFilling
+filling-value s h = zero-bits s ∙ simp (lt-ltb (length s) 8 h)
+
+pub filling-field : (k : ℕ) → k < 8 → isFilling (field k 0) ≡ true
+filling-field k h =
+    sym (filling-value (field k 0) (omega (arith, field-length k 0))) ∙ eq-eqb (value (field k 0)) 0 (value-field-exact k 0 (pow-pos k))
+
 -- ---- bits behind bits
 
 -- a number with w bits below it
@@ -207,19 +225,33 @@ unfolding nameBits
 name-length n =
     length-append (field 4 (length n - 1)) (stringsBits narrow n) ∙ ap (λ (k : ℕ). k + length (stringsBits narrow n)) (field-length 4 (length n - 1))
 
+pub bytes-front : (n : ℕ) (b : List ℕ) → areBytes b ≡ true → areBytes (take n b) ≡ true
+unfolding all
+bytes-front zero b h = refl
+bytes-front (suc n) [] h = refl
+bytes-front (suc n) (x ∷ b) h = and-both (and-left (ltb x 256) (areBytes b) h) (bytes-front n b (and-right (ltb x 256) (areBytes b) h))
+
 strings-most : (n : Name) → allShort narrow n ≡ true → length (stringsBits narrow n) ≤ length n * 29
 unfolding stringsBits
 strings-most [] h = omega arith
 strings-most (s ∷ n) h = omega (arith, strings-length s n, short-head narrow s n h, strings-most n (short-tail narrow s n h))
 
-name-most : (n : Name) → isName narrow n ≡ true → length (nameBits narrow n) ≤ 468
+-- the bytes of a stamp hold the bits of both names
+stamp-size : (s : Stamp) → length (packed narrow s) ≡ bytesFor (length (nameBits narrow (s .update)) + length (nameBits narrow (s .id)))
+unfolding stampBits
+stamp-size s = packed-length narrow s ∙ ap bytesFor (length-append (nameBits narrow (s .update)) (nameBits narrow (s .id)))
+
+pub record-size : (r : Record) → length (packed narrow (held r)) ≡ bytesFor (length (nameBits narrow (strsIn (r .update))) + length (nameBits narrow (strsIn (r .id))))
+unfolding held
+record-size r = stamp-size (held r)
+
+pub name-most : (n : Name) → isName narrow n ≡ true → length (nameBits narrow n) ≤ 468
 name-most n h =
     let i = named narrow n h in
     omega (arith, name-length n, strings-most n (i .short), i .few)
 
 -- more bytes than the longest stamp has never read
 pub too-long : (b : List ℕ) → areBytes b ≡ true → 117 < length b → unpacked narrow b ≡ none
-unfolding stampBits
 too-long b h l = by (unpacked narrow b) refl
   where
     by : (o : Option Stamp) → unpacked narrow b ≡ o → unpacked narrow b ≡ none
@@ -229,8 +261,7 @@ too-long b h l = by (unpacked narrow b) refl
         absurd (omega (
           arith,
           ap length (packed-unpacked narrow b s h e),
-          packed-length narrow s,
-          length-append (nameBits narrow (s .update)) (nameBits narrow (s .id)),
+          stamp-size s,
           name-most (s .update) (n .0),
           name-most (s .id) (n .1),
         ))

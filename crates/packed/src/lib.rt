@@ -275,7 +275,7 @@ fn put_stamp(out: &mut [u8], r: Record)
     let u = put_name(out, start, r.update);
     let i = put_name(out, u, r.id);
     let left = (8 - i.held) % 8;
-    let end = put(out, i, left, 0);
+    put(out, i, left, 0);
 }
 
 // How many bits the name n takes: its count, and each string behind its length.

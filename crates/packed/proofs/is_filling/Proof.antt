@@ -14,20 +14,12 @@ use Rattle.rules.specs.Strings.{valueFrom, value}
 use Rattle.rules.specs.Names.{any}
 use Rattle.rules.specs.Packed.{bitsOf, isFilling}
 use Rattle.laws.proofs.Bits.{value-shift}
-use Rattle.packed.proofs.Laws.{room-is}
+use Rattle.packed.proofs.Laws.{room-is, filling-value}
 use Rattle.packed.proofs.is_filling.Statement.{statement}
 use Rattle.packed.proofs.is_filling.Tie as tie
 
-zero-bits : (s : List Bool) → eqb (value s) 0 ≡ not (any (λ (x : Bool). x) s)
-unfolding any valueFrom
-zero-bits [] = refl
-zero-bits (true ∷ s) = ne-eqb (valueFrom 1 s) 0 (λ e. omega (arith, value-shift 1 s, pow-pos (length s)))
-zero-bits (false ∷ s) = zero-bits s
-
 less-than-a-byte : (s : List Bool) (n v : ℕ) → length s ≡ n → n < 8 → v ≡ value (take n s) → eqb v 0 ≡ isFilling s
-unfolding isFilling
-less-than-a-byte s n v e h f =
-    ap (λ (x : ℕ). eqb x 0) (f ∙ ap value (take-all n s (omega arith))) ∙ zero-bits s ∙ simp (lt-ltb (length s) 8 (omega arith))
+less-than-a-byte s n v e h f = ap (λ (x : ℕ). eqb x 0) (f ∙ ap value (take-all n s (omega arith))) ∙ filling-value s (omega arith)
 
 a-byte-or-more : (s : List Bool) → 8 ≤ length s → false ≡ isFilling s
 unfolding isFilling
