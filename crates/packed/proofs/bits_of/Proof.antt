@@ -15,8 +15,6 @@ use Rattle.stamps.proofs.Laws.{stored-few, stored-cons, stored-end}
 use Rattle.packed.proofs.Laws.{strings-length, name-length}
 use Rattle.packed.proofs.bits_of.Statement.{statement}
 use Rattle.packed.proofs.bits_of.Tie as tie
-use Rattle.packed.proofs.bits_of.Reads as reads
-use Rattle.packed.proofs.bits_of.Lts as lts
 
 abbrev Inv-loop : tie.InvT-loop
 Inv-loop n c sum₀ i₀ sum i =

@@ -2,7 +2,7 @@
 -- Assumes nothing.
 use mathlib.Core.Path.{_≡_, refl, sym, ap, ap₂, _∙_}
 use mathlib.Core.Bool.{Bool}
-use mathlib.Core.List.{List, _++_, append-assoc}
+use mathlib.Core.List.{List, [], _∷_, _++_, append-assoc, append-nil}
 use Prim.Native.Nat.{ℕ, suc, _+_, _*_, _-_, _/_, _%_, _^_, _≤_, _<_}
 use native.Mathlib.Nat.{mod-lt}
 use native.Mathlib.Numerals.{add-one}
@@ -10,24 +10,44 @@ use native.Mathlib.Omega.{arith}
 use borrow.Author.Needs.{needs}
 use lib.Pow.{pow-pos, pow-mono, shl-exact, shr-lt}
 use lib.ListN.{length, take, drop, set, length-set}
-use lib.Seq.{drop-drop, drop-set-lt}
+use lib.Seq.{drop-drop, drop-set-lt, take-suc-set}
 use Rattle.rules.specs.Strings.{field}
 use Rattle.rules.specs.Packed.{bitsOf}
 use Rattle.laws.proofs.Bits.{field-length}
+use Rattle.laws.proofs.Words.{field-low, field-split}
 use Rattle.packed.specs.Cursors.{Put}
 use Rattle.packed.specs.declared.Pen.{Pen}
-use Rattle.packed.proofs.Laws.{mask, part-room, field-join, byte-out}
+use Rattle.packed.proofs.Laws.{mask, join-lt, field-join}
 use Rattle.packed.proofs.put.Statement.{statement}
 use Rattle.packed.proofs.put.Tie as tie
-use Rattle.packed.proofs.put.Reads as reads
-use Rattle.packed.proofs.put.Lts as lts
+
+-- ---- a byte goes out
+
+bits-append : (a b : List ℕ) → bitsOf (a ++ b) ≡ bitsOf a ++ bitsOf b
+unfolding bitsOf
+bits-append [] b = refl
+bits-append (x ∷ a) b = ap (λ (s : List Bool). field 8 x ++ s) (bits-append a b) ∙ sym (append-assoc (field 8 x) (bitsOf a) (bitsOf b))
+
+-- the eight highest of the bits that are held
+byte-out : (l : List ℕ) (at h acc : ℕ) → at < length l
+    → bitsOf (take (at + 1) (set l at (acc / 2 ^ h))) ++ field h (acc % 2 ^ h) ≡ bitsOf (take at l) ++ field (8 + h) acc
+unfolding bitsOf
+byte-out l at h acc r =
+    let x = acc / 2 ^ h in
+    ap₂ (λ (s t : List Bool). s ++ t)
+    (ap (λ (n : ℕ). bitsOf (take n (set l at x))) (add-one at) ∙ ap bitsOf (take-suc-set l at x r) ∙ bits-append (take at l) (x ∷ [])
+    ∙ ap (λ (s : List Bool). bitsOf (take at l) ++ s) (append-nil (field 8 x)))
+    (field-low h acc)
+    ∙ append-assoc (bitsOf (take at l)) (field 8 x) (field h acc) ∙ ap (λ (s : List Bool). bitsOf (take at l) ++ s) (sym (field-split 8 h acc))
+
+-- ---- the loop
 
 -- the shift loses nothing
 joined : (h w a v : ℕ) → h < 8 → w ≤ 32 → a < 2 ^ h → (a * 2 ^ w) % 2 ^ 64 + v ≡ a * 2 ^ w + v
 joined h w a v hh hw ha = ap (λ (n : ℕ). n + v) (shl-exact h w 64 ha (omega arith))
 
 joined-lt : (h w a v : ℕ) → h < 8 → w ≤ 32 → a < 2 ^ h → v < 2 ^ w → (a * 2 ^ w) % 2 ^ 64 + v < 2 ^ (h + w)
-joined-lt h w a v hh hw ha hv = rw (joined h w a v hh hw ha) (part-room a h w v ha hv)
+joined-lt h w a v hh hw ha hv = rw (joined h w a v hh hw ha) (join-lt a h w v ha hv)
 
 -- what the code holds, in the place of what it held at first
 record Same (l₀ : List ℕ) (at₀ held₀ acc₀ : ℕ) (l : List ℕ) (at held acc : ℕ) : Type 0 where

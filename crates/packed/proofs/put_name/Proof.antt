@@ -20,10 +20,6 @@ use Rattle.packed.specs.declared.Pen.{Pen}
 use Rattle.packed.proofs.Laws.{put-on, put-none, string-length, strings-length, name-length}
 use Rattle.packed.proofs.put_name.Statement.{statement}
 use Rattle.packed.proofs.put_name.Tie as tie
-use Rattle.packed.proofs.put_name.Reads as reads
-use Rattle.packed.proofs.put_name.Lts as lts
-use Rattle.packed.proofs.put.Reads as put-reads
-use Rattle.packed.proofs.put_string.Reads as put-string-reads
 
 -- the strings of n are to be put, and those of m are still to come
 record Going (p : Pen) (l : List ℕ) (n : Name) (q : Pen) (k : List ℕ) (m : Name) : Type 0 where
