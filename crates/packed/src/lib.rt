@@ -1,7 +1,7 @@
 // One packed stamp: read from bytes of any content, and written into a lent buffer.
 ghost use mathlib.Core.Path.{_≡_};
 ghost use mathlib.Core.Bool.{true, false, cond};
-ghost use Prim.Native.Nat.{ℕ, _≤_, _<_, _+_, _*_, _-_, _^_, min};
+ghost use Prim.Native.Nat.{_≤_, _<_, _+_, _*_, _-_, _^_, min};
 ghost use lib.ListN.{length, take, drop, replicate};
 ghost use Rattle.rules.specs.Limits.{narrow};
 ghost use Rattle.rules.specs.Strings.{value, field, strOf};
@@ -9,9 +9,15 @@ ghost use Rattle.rules.specs.Stored.{strsIn, held, blank, isStoredName, isStore
 ghost use Rattle.rules.specs.Packed.{bitsOf, stringBits, nameBits, packed, over, isFilling, readStamp, writtenStamp};
 ghost use Rattle.rules.specs.declared.Answer.the-variants.{Refused};
 ghost use Rattle.packed.specs.Cursors.{StringAt, NameAt, Ready, Put};
-use rules::{Answer, Given, Record, Refusal, Words, Written};
+use rules::Answer;
+use rules::Given;
+use rules::Record;
+use rules::Refusal;
+use rules::Words;
+use rules::Written;
 use stamps::is_lawful;
-use strings::{comes_before, DIGITS};
+use strings::DIGITS;
+use strings::comes_before;
 
 // A packed stamp has at most so many bytes.
 pub const BYTES: usize = 117;
@@ -46,7 +52,10 @@ pub fn read(b: &[u8]) -> Given
     if !is_lawful(stamp) {
         return refused(Refusal::Unlawful);
     }
-    Given { answer: Answer::Done, stamp }
+    Given {
+        answer: Answer::Done,
+        stamp,
+    }
 }
 
 // The bytes of r at the front of out, and the rest kept: refused 2 where r is unlawful, 10 where out is too short; then nothing is written.
@@ -96,8 +105,14 @@ fn refused(why: Refusal) -> Given
 {
     let words = [0; 16];
     let none = Words { count: 0, words };
-    let stamp = Record { update: none, id: none };
-    Given { answer: Answer::Refused(why), stamp }
+    let stamp = Record {
+        update: none,
+        id: none,
+    };
+    Given {
+        answer: Answer::Refused(why),
+        stamp,
+    }
 }
 
 // The name that begins at bit pos: each string after the one before it.
@@ -132,7 +147,11 @@ fn name_at(b: &[u8], pos: usize) -> OneName
         count += 1;
     }
     let name = Words { count, words };
-    OneName { ok: true, next, name }
+    OneName {
+        ok: true,
+        next,
+        name,
+    }
 }
 
 // No name reads.
@@ -141,7 +160,11 @@ fn no_name() -> OneName
 {
     let words = [0; 16];
     let name = Words { count: 0, words };
-    OneName { ok: false, next: 0, name }
+    OneName {
+        ok: false,
+        next: 0,
+        name,
+    }
 }
 
 // The string that begins at bit pos: its length, then its digits.
@@ -149,7 +172,11 @@ fn string_at(b: &[u8], pos: usize) -> OneString
     requires { ⌜ (length (now b) ≤ 117) × (pos ≤ length (now b) * 8) ⌝ }
     ensures { λ r. ⌜ StringAt (now (b .entry)) pos (r .ok) (r .next) (r .word) ⌝ }
 {
-    let none = OneString { ok: false, next: 0, word: 0 };
+    let none = OneString {
+        ok: false,
+        next: 0,
+        word: 0,
+    };
     let room = b.len() * 8 - pos;
     if room < LENGTH_BITS {
         return none;
@@ -166,7 +193,11 @@ fn string_at(b: &[u8], pos: usize) -> OneString
     let v = bits_at(b, at, w);
     let s = word(v, n);
     let end = at + w;
-    OneString { ok: true, next: end, word: s }
+    OneString {
+        ok: true,
+        next: end,
+        word: s,
+    }
 }
 
 // The word of the string of n digits that v says: moved to the top, and the length.
@@ -265,7 +296,11 @@ fn put_stamp(out: &mut [u8], r: Record)
     requires { ⌜ (isStored narrow r ≡ true) × (length (packed narrow (held r)) ≤ length (now out)) ⌝ }
     ensures { λ _. ⌜ now (out .exit) ≡ over (packed narrow (held r)) (now (out .entry)) ⌝ }
 {
-    let start = Pen { at: 0, held: 0, acc: 0 };
+    let start = Pen {
+        at: 0,
+        held: 0,
+        acc: 0,
+    };
     let u = put_name(out, start, r.update);
     let i = put_name(out, u, r.id);
     let left = (8 - i.held) % 8;

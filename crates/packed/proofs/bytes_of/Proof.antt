@@ -1,9 +1,8 @@
 -- `packed::bytes_of` meets its contract: as many bytes as hold the bits of both names. Assumes nothing.
-use mathlib.Core.Path.{_≡_, sym, ap₂, _∙_}
+use mathlib.Core.Path.{sym, ap₂, _∙_}
 use Prim.Native.Nat.{ℕ, _+_}
 use native.Mathlib.Omega.{arith}
 use Rattle.rules.specs.Limits.{narrow, bytesFor}
-use Rattle.rules.specs.Stored.{strsIn}
 use Rattle.names.proofs.Shape.{stored-name}
 use Rattle.stamps.proofs.Laws.{stored-names}
 use Rattle.packed.proofs.Laws.{name-most, record-length}

@@ -3,7 +3,7 @@
 use mathlib.Core.Path.{_≡_, refl, sym, ap, ap₂, _∙_}
 use mathlib.Core.Bool.{Bool}
 use mathlib.Core.List.{List, [], _∷_, _++_, append-assoc, append-nil}
-use Prim.Native.Nat.{ℕ, suc, _+_, _*_, _-_, _/_, _%_, _^_, _≤_, _<_}
+use Prim.Native.Nat.{ℕ, _+_, _*_, _-_, _/_, _%_, _^_, _≤_, _<_}
 use native.Mathlib.Nat.{mod-lt}
 use native.Mathlib.Numerals.{add-one}
 use native.Mathlib.Omega.{arith}
@@ -57,33 +57,34 @@ record Same (l₀ : List ℕ) (at₀ held₀ acc₀ : ℕ) (l : List ℕ) (at he
   moved : at * 8 + held ≡ at₀ * 8 + held₀
   long : length l ≡ length l₀
 
--- a byte goes out
-stepped : (l₀ : List ℕ) (at₀ held₀ acc₀ : ℕ) (l : List ℕ) (at held acc h : ℕ) → h + 8 ≡ held → held ≤ 39 → at < length l → Same l₀ at₀ held₀ acc₀ l at held acc
-    → Same l₀ at₀ held₀ acc₀ (set l at (acc / 2 ^ h)) (at + 1) h (acc % ((1 * 2 ^ h) % 2 ^ 64))
-stepped l₀ at₀ held₀ acc₀ l at held acc h e most r s =
-    let low : acc % ((1 * 2 ^ h) % 2 ^ 64) ≡ acc % 2 ^ h = ap (λ (n : ℕ). acc % n) (mask h (omega arith)) in
-    record {
-      bits =
-          ap (λ (n : ℕ). bitsOf (take (at + 1) (set l at (acc / 2 ^ h))) ++ field h n) low ∙ byte-out l at h acc r
-          ∙ ap (λ (n : ℕ). bitsOf (take at l) ++ field n acc) (let d : 8 + h ≡ held = omega arith in d) ∙ s .bits;
-      kept = drop-set-lt (at + 1) l at (acc / 2 ^ h) (omega arith) ∙ sym (drop-drop 1 at l) ∙ ap (drop 1) (s .kept) ∙ drop-drop 1 at l₀;
-      small = rw low (mod-lt acc (pow-pos h));
-      moved = omega (arith, s .moved);
-      long = length-set l at (acc / 2 ^ h) ∙ s .long;
-    }
+module _ {l₀ : List ℕ} {at₀ held₀ acc₀ : ℕ} {l : List ℕ} {at held acc : ℕ} (s : Same l₀ at₀ held₀ acc₀ l at held acc) where
+  -- a byte goes out
+  stepped : (h : ℕ) → h + 8 ≡ held → held ≤ 39 → at < length l
+      → Same l₀ at₀ held₀ acc₀ (set l at (acc / 2 ^ h)) (at + 1) h (acc % ((1 * 2 ^ h) % 2 ^ 64))
+  stepped h e most r =
+      let low : acc % ((1 * 2 ^ h) % 2 ^ 64) ≡ acc % 2 ^ h = ap (λ (n : ℕ). acc % n) (mask h (omega arith)) in
+      record {
+        bits =
+            ap (λ (n : ℕ). bitsOf (take (at + 1) (set l at (acc / 2 ^ h))) ++ field h n) low ∙ byte-out l at h acc r
+            ∙ ap (λ (n : ℕ). bitsOf (take at l) ++ field n acc) (let d : 8 + h ≡ held = omega arith in d) ∙ s .bits;
+        kept = drop-set-lt (at + 1) l at (acc / 2 ^ h) (omega arith) ∙ sym (drop-drop 1 at l) ∙ ap (drop 1) (s .kept) ∙ drop-drop 1 at l₀;
+        small = rw low (mod-lt acc (pow-pos h));
+        moved = omega (arith, s .moved);
+        long = length-set l at (acc / 2 ^ h) ∙ s .long;
+      }
 
 -- no byte more
 ended : (p : Pen) (l₀ : List ℕ) (w v : ℕ) (l : List ℕ) (at held acc : ℕ) → p .held < 8 → w ≤ 32 → p .acc < 2 ^ p .held → v < 2 ^ w → held < 8
     → Same l₀ (p .at) (p .held + w) ((p .acc * 2 ^ w) % 2 ^ 64 + v) l at held acc
     → Put p l₀ (field w v) (record { at = at; held = held; acc = acc }) l
 ended p l₀ w v l at held acc hh hw ha hv few s =
-    let first = bitsOf (take (p .at) l₀) in
+    let front = bitsOf (take (p .at) l₀) in
     record {
       bits =
           s .bits
-          ∙ ap (λ (n : ℕ). first ++ field (p .held + w) n) (joined (p .held) w (p .acc) v hh hw ha)
-          ∙ ap (λ (t : List Bool). first ++ t) (field-join (p .held) w (p .acc) v hv)
-          ∙ sym (append-assoc first (field (p .held) (p .acc)) (field w v));
+          ∙ ap (λ (n : ℕ). front ++ field (p .held + w) n) (joined (p .held) w (p .acc) v hh hw ha)
+          ∙ ap (λ (t : List Bool). front ++ t) (field-join (p .held) w (p .acc) v hv)
+          ∙ sym (append-assoc front (field (p .held) (p .acc)) (field w v));
       kept = s .kept;
       few = few;
       small = s .small;
@@ -113,8 +114,7 @@ add-acc c =
 loop-holds : tie.Need-loop-holds Inv-loop μ-loop
 loop-holds c =
     let g = c .before .before in
-    let p = g .args .p in
-    (
+    let p = g .args .p in (
       omega (arith, g .pre .2 .few),
       record {
         bits = refl;
@@ -153,7 +153,8 @@ loop-again : tie.Need-loop-again Inv-loop μ-loop
 loop-again c =
     let l = c .before .loop in
     let g = c .before .before .before .before in
-    (omega arith, stepped (g .args .out .now) _ _ _ (l .out) (l .at) (l .held) (l .acc) (l .held - 8) (omega arith) (omega arith) (omega (arith, l .inv .1 .moved, l .inv .1 .long, g .pre .2 .room)) (l .inv .1))
+    let room : l .at < length (l .out) = omega (arith, l .inv .1 .moved, l .inv .1 .long, g .pre .2 .room) in
+    (omega arith, stepped (l .inv .1) (l .held - 8) (omega arith) (omega arith) room)
 
 same-length : tie.Need-same-length Inv-loop μ-loop
 same-length c = search needs
@@ -162,8 +163,8 @@ returns : tie.Need-returns Inv-loop μ-loop
 returns c =
     let l = c .before .loop in
     let g = c .before .before .before .before in
-    ended (g .args .p) (g .args .out .now) (g .args .w) (g .args .v) (l .out) (l .at) (l .held) (l .acc) (g .pre .2 .few) (g .pre .0) (g .pre .2 .small) (g .pre .1)
-    (omega arith) (l .inv .1)
+    ended (g .args .p) (g .args .out .now) (g .args .w) (g .args .v) (l .out) (l .at) (l .held) (l .acc)
+    (g .pre .2 .few) (g .pre .0) (g .pre .2 .small) (g .pre .1) (omega arith) (l .inv .1)
 
 pub put-spec : {M : Type 1} → statement M
 put-spec =

@@ -1,14 +1,14 @@
 -- `packed::put_stamp` meets its contract: both names and zeros up to a whole byte are put, so that no bit is held, and bytes whose bits
 -- are these and a filling are the stamp packed. Assumes nothing.
 use mathlib.Core.Path.{_≡_, refl, sym, ap, ap₂, _∙_}
-use mathlib.Core.Bool.{Bool, true}
+use mathlib.Core.Bool.{true}
 use mathlib.Core.List.{List, [], _∷_, _++_, append-nil}
-use Prim.Native.Nat.{ℕ, zero, suc, _+_, _*_, _-_, _%_, _^_, _≤_, _<_}
+use Prim.Native.Nat.{ℕ, zero, suc, _-_, _%_, _<_}
 use native.Mathlib.Omega.{arith}
 use borrow.Author.Tests.{eq-eqb}
 use lib.Dec.{ltb}
 use lib.Pow.{pow-pos}
-use lib.ListN.{length, getD, take, drop, length-append, take-append-drop}
+use lib.ListN.{length, take, drop, length-append, take-append-drop}
 use Rattle.rules.specs.Limits.{narrow}
 use Rattle.rules.specs.Strings.{field, value}
 use Rattle.rules.specs.Names.{all}
@@ -20,7 +20,7 @@ use Rattle.laws.proofs.Bits.{field-length, value-field-exact}
 use Rattle.layout.proofs.Bytes.{areBytes, pack-of-bits}
 use Rattle.layout.proofs.Sizes.{packed-length}
 use Rattle.stamps.proofs.Laws.{stored-names}
-use Rattle.packed.specs.Cursors.{written, Ready, Put}
+use Rattle.packed.specs.Cursors.{Put}
 use Rattle.packed.specs.declared.Pen.{Pen}
 use Rattle.packed.proofs.Laws.{put-on, filling-value, bytes-are, record-length}
 use borrow.Author.Needs.{needs}
@@ -55,8 +55,7 @@ whole r l k q m bytes few none p =
 
 put-name-requires : tie.Need-put-name-requires
 put-name-requires c κs =
-    let g = c .before .before in
-    (
+    let g = c .before .before in (
       stored-names narrow (g .args .r) (g .pre .0) .0,
       record { few = omega arith; small = omega arith; room = omega (arith, g .pre .1, record-length (g .args .r)) },
     )
@@ -65,8 +64,7 @@ put-name-requires-2 : tie.Need-put-name-requires-2
 put-name-requires-2 c κs =
     let u = c .before .before .before in
     let g = u .before .before .before in
-    let p = u .put-name .ensures in
-    (
+    let p = u .put-name .ensures in (
       stored-names narrow (g .args .r) (g .pre .0) .1,
       record { few = p .few; small = p .small; room = omega (arith, p .moved, u .put-name .kept .0, g .pre .1, record-length (g .args .r)) },
     )
@@ -79,8 +77,7 @@ put-requires c κs =
     let i = c .before .before .before .before in
     let u = i .before .before .before .before in
     let g = u .before .before .before in
-    let p = i .put-name2 .ensures in
-    (
+    let p = i .put-name2 .ensures in (
       omega arith,
       pow-pos _,
       record {

@@ -5,13 +5,10 @@ use mathlib.Core.List.{List, _++_}
 use Prim.Native.Nat.{ℕ, _+_, _*_, _-_, _/_, _%_, _^_, _≤_, _<_}
 use native.Mathlib.Omega.{arith}
 use lib.Pow.{pow-mono, shl-exact, shr-lt, shr-shr}
-use lib.ListN.{length, length-append}
 use Rattle.rules.specs.Limits.{narrow}
 use Rattle.rules.specs.Strings.{field, strOf}
 use Rattle.rules.specs.Packed.{stringBits}
-use Rattle.laws.proofs.Bits.{field-length}
 use Rattle.laws.proofs.Words.{str-length, str-top}
-use Rattle.packed.specs.Cursors.{Ready, Put}
 use Rattle.packed.proofs.Laws.{join-lt, field-join, string-length}
 use borrow.Author.Needs.{needs}
 use Rattle.packed.proofs.put_string.Statement.{statement}
@@ -67,8 +64,7 @@ put-requires : tie.Need-put-requires
 put-requires c κs =
     let g = c .before .before in
     let w = g .args .s in
-    let n : w % 64 ≤ 24 = omega (arith, str-length w, g .pre .0) in
-    (
+    let n : w % 64 ≤ 24 = omega (arith, str-length w, g .pre .0) in (
       omega arith,
       number-lt w (w % 64) (g .fits .s .fits) n,
       record { few = g .pre .1 .few; small = g .pre .1 .small; room = omega (arith, g .pre .1 .room, string-length (strOf w), str-length w) },

@@ -1,22 +1,21 @@
 -- `packed::read` meets its contract: each test of the code is the one that the reader of bits makes there, and a record that was read
 -- is the stored shape of its stamp, so that only the stamp decides whether it is lawful. Assumes nothing.
-use mathlib.Core.Path.{_≡_, refl, sym, ap, ap₂, _∙_}
+use mathlib.Core.Path.{_≡_, refl, sym, ap, _∙_}
 use mathlib.Core.Bool.{Bool, true, false, cond, _&&_, and-true}
-use mathlib.Core.List.{List, [], _∷_}
+use mathlib.Core.List.{List}
 use mathlib.Core.Option.{Option, none, some}
-use Prim.Native.Nat.{ℕ, _+_, _*_, _-_, _≤_, _<_}
+use Prim.Native.Nat.{ℕ, _<_}
 use native.Mathlib.Omega.{arith}
 use borrow.Author.Needs.{needs}
 use borrow.Author.Tests.{not-true, not-false}
 use lib.Dec.{lit≤}
-use lib.ListN.{length, getD, drop}
+use lib.ListN.{length, drop}
 use Rattle.rules.specs.Limits.{narrow}
 use Rattle.rules.specs.Names.{Name}
 use Rattle.rules.specs.Stamps.{Stamp, lawful}
-use Rattle.rules.specs.Stored.{wordsOf, stored, strsIn, held, sameRecord, isStored, blank}
+use Rattle.rules.specs.Stored.{stored, strsIn, held, sameRecord, isStored, blank}
 use Rattle.rules.specs.Refusals.{first}
-use Rattle.rules.specs.Packed.{bitsOf, takeName, takeStamp, isFilling, filledOnly, unpacked, readAs, readStamp}
-use Rattle.rules.specs.declared.Words.{Words}
+use Rattle.rules.specs.Packed.{bitsOf, takeName, takeStamp, isFilling, unpacked, readAs, readStamp}
 use Rattle.rules.specs.declared.Record.{Record}
 use Rattle.rules.specs.declared.Given.{Given}
 use Rattle.rules.specs.declared.Refusal.the-variants.{Malformed, Unlawful}
@@ -151,7 +150,8 @@ returns-5 c =
     let i = f .before .before .before in
     let u = i .before .before .before in
     let b = u .before .before .before .args .b .now in
-    c .refused5 .ensures ∙ judged b (record { update = u .name-at .result .name; id = i .name-at2 .result .name }) (u .name-at .result .next) (i .name-at2 .result .next)
+    c .refused5 .ensures
+    ∙ judged b (record { update = u .name-at .result .name; id = i .name-at2 .result .name }) (u .name-at .result .next) (i .name-at2 .result .next)
     _ _ false (u .name-at .ensures) (not-false _ (i .before .if2 .left)) (i .name-at2 .ensures) (not-false _ (f .before .if3 .left))
     (sym (not-false _ (c .before .before .before .before .before .if4 .left)) ∙ f .is-filling .ensures)
     (sym (not-true _ (c .before .if5 .taken)) ∙ c .before .before .is-lawful .ensures)

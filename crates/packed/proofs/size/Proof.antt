@@ -1,5 +1,5 @@
 -- `packed::size` meets its contract: a record that is not lawful has no bytes. Assumes nothing.
-use mathlib.Core.Path.{_≡_, sym, _∙_}
+use mathlib.Core.Path.{sym, _∙_}
 use borrow.Author.Needs.{needs}
 use borrow.Author.Tests.{not-true, not-false}
 use Rattle.packed.proofs.size.Statement.{statement}
