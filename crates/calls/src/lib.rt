@@ -1,20 +1,15 @@
 // The packed calls: update, fork, join and compare on lent bytes, and which of two to keep.
 // Refusals come in the order 1 and 2 for the first stamp, 1 and 2 for the second, 8, 9, 6, 7, 10.
 ghost use mathlib.Core.Path.{_≡_};
+ghost use mathlib.Core.List.{[]};
 ghost use denote.Ref.{RefT};
 ghost use Rattle.rules.specs.Limits.{narrow};
-ghost use Rattle.rules.specs.Packed.{packedUpdate, packedFork, packedJoin, packedCompare};
+ghost use Rattle.rules.specs.Packed.{wrote, comparedAfter, packedUpdate, packedFork, packedJoin, packedCompare, sideOf};
+ghost use Rattle.rules.specs.declared.Verdict.the-variants.{Equal};
+ghost use Rattle.rules.specs.declared.Compared.the-variants.{Is};
+ghost use Rattle.calls.specs.Keep.{keptIs};
 use packed::{read, size, write};
-use rules::{Answer, Compared, Given, Record, Refusal, Verdict, Written};
-
-// A refusal passed out of a call that writes.
-fn refused(a: Answer) -> Written
-{
-    match a {
-        Answer::Refused(r) => Written::Refused(r),
-        Answer::Done => Written::Bytes(0),
-    }
-}
+use rules::{Answer, Compared, Refusal, Verdict, Written};
 
 // The stamp after an edit, into out.
 pub fn update(stamp: &[u8], out: &mut [u8]) -> Written
@@ -101,4 +96,37 @@ pub fn compare(first: &[u8], second: &[u8]) -> Compared
     let s = g.stamp;
     let t = h.stamp;
     stamps::compare(s, t)
+}
+
+// The one to keep, itself: the first if equal or newer, the second if the first is obsolete; an empty part of the first on conflict or refusal.
+pub fn keep<'a>(first: &'a [u8], second: &'a [u8]) -> &'a [u8]
+    ensures { λ r. ⌜ keptIs (sideOf (packedCompare narrow (now (first .entry)) (now (second .entry)))) (first .entry) (second .entry) r ⌝ }
+{
+    match compare(first, second) {
+        Compared::Is(Verdict::Equal) => first,
+        Compared::Is(Verdict::Obsolete) => second,
+        Compared::Is(Verdict::Newer) => first,
+        Compared::Is(Verdict::Conflict) => &first[0..0],
+        Compared::Refused(_) => &first[0..0],
+    }
+}
+
+// A refusal passed out of a call that writes.
+fn refused(a: Answer) -> Written
+    ensures { λ w. ⌜ w ≡ wrote a [] [] .answer ⌝ }
+{
+    match a {
+        Answer::Refused(r) => Written::Refused(r),
+        Answer::Done => Written::Bytes(0),
+    }
+}
+
+// A refusal passed out of a comparison.
+fn uncompared(a: Answer) -> Compared
+    ensures { λ c. ⌜ c ≡ comparedAfter a (Is Equal) ⌝ }
+{
+    match a {
+        Answer::Refused(r) => Compared::Refused(r),
+        Answer::Done => Compared::Is(Verdict::Equal),
+    }
 }
