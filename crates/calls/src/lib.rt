@@ -102,12 +102,15 @@ pub fn compare(first: &[u8], second: &[u8]) -> Compared
 pub fn keep<'a>(first: &'a [u8], second: &'a [u8]) -> &'a [u8]
     ensures { λ r. ⌜ keptIs (sideOf (packedCompare narrow (now (first .entry)) (now (second .entry)))) (first .entry) (second .entry) r ⌝ }
 {
-    match compare(first, second) {
-        Compared::Is(Verdict::Equal) => first,
-        Compared::Is(Verdict::Obsolete) => second,
-        Compared::Is(Verdict::Newer) => first,
-        Compared::Is(Verdict::Conflict) => &first[0..0],
-        Compared::Refused(_) => &first[0..0],
+    let c = compare(first, second);
+    let Compared::Is(v) = c else {
+        return &first[0..0];
+    };
+    match v {
+        Verdict::Equal => first,
+        Verdict::Obsolete => second,
+        Verdict::Newer => first,
+        Verdict::Conflict => &first[0..0],
     }
 }
 
