@@ -6,14 +6,14 @@ use mathlib.Core.List.{List, [], _∷_}
 use mathlib.Core.Option.{Option, none, some}
 use Prim.Native.Nat.{ℕ, _≤_}
 use native.Mathlib.Omega.{arith}
-use borrow.Author.Tests.{not-false}
+use borrow.Author.Tests.{not-false, le-ltb}
 use lib.ListN.{length}
 use Rattle.rules.specs.Limits.{Limits}
 use Rattle.rules.specs.Stamps.{Stamp, lawful, update, fork, join}
 use Rattle.rules.specs.Stored.{stored, held, isStored, unlawful, blank}
 use Rattle.rules.specs.Refusals.{first, long, many, overlap, unseen}
 use Rattle.rules.specs.Values.{given, branches, updated, forked, meeting, joined}
-use Rattle.rules.specs.Packed.{Wrote, packed, unpacked, readAs, readStamp, wrote, writtenStamp}
+use Rattle.rules.specs.Packed.{Wrote, packed, over, unpacked, readAs, readStamp, wrote, writtenStamp}
 use Rattle.rules.specs.declared.Record.{Record}
 use Rattle.rules.specs.declared.Given.{Given}
 use Rattle.rules.specs.declared.Forked.{Forked}
@@ -22,7 +22,7 @@ use Rattle.rules.specs.declared.Refusal.the-variants.{Unlawful, Long, Many, Ove
 use Rattle.rules.specs.declared.Answer.{Answer}
 use Rattle.rules.specs.declared.Answer.the-variants.{Done, Refused}
 use Rattle.rules.specs.declared.Written.{Written}
-use Rattle.rules.specs.declared.Written.the-variants.{Refused as NotWritten}
+use Rattle.rules.specs.declared.Written.the-variants.{Bytes, Refused as NotWritten}
 use Rattle.laws.proofs.Lawful.{lawful-update, lawful-fork, lawful-join}
 use Rattle.laws.proofs.Stored.{is-stored, held-stored, stored-lawful, stored-not-unlawful}
 use Rattle.layout.proofs.Sizes.{forks-length}
@@ -107,6 +107,13 @@ module _ (L : Limits) (room : L .digits ≤ 58) where
       let u = none-holds (unseen (held a) (held b)) Unseen _ o .1 in
       lawful-join L (held a) (held b) (stored-lawful L a h) (stored-lawful L b k) (none-holds (many L j) Many [] u .0))
 
+  -- ---- a stored record is written as it is
+
   pub written-is : (r : Record) (l : List ℕ) → isStored L r ≡ true → writtenStamp L r l ≡ wrote Done (packed L (held r)) l
   unfolding writtenStamp first
   written-is r l h = rw (stored-not-unlawful L r h)
+
+  pub written-fits : (r : Record) (l : List ℕ) → isStored L r ≡ true → length (packed L (held r)) ≤ length l
+      → writtenStamp L r l ≡ record { answer = Bytes (length (packed L (held r))); out = over (packed L (held r)) l }
+  unfolding wrote
+  written-fits r l h k = written-is r l h ∙ rw (le-ltb (length l) (length (packed L (held r))) k)

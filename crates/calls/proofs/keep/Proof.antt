@@ -1,81 +1,76 @@
+-- `calls::keep` meets its contract: each verdict's own side is given back, by the reference itself; the empty part has the first's address.
+-- Assumes nothing.
+use mathlib.Core.Path.{_≡_, refl, sym, ap, _∙_}
+use Prim.Native.Nat.{ℕ}
+use native.Mathlib.Nat.{zero-add}
 use borrow.Author.Needs.{needs}
+use Rattle.rules.specs.declared.Compared.the-variants.{Is}
 use Rattle.calls.proofs.keep.Statement.{statement}
 use Rattle.calls.proofs.keep.Tie as tie
 use Rattle.calls.proofs.keep.Reads as reads
 use Rattle.calls.proofs.keep.Lts as lts
 use Rattle.calls.proofs.compare.Reads as compare-reads
 
--- src/lib.rt:105:9
 compare-requires : tie.Need-compare-requires
 compare-requires c κs = search needs
 
--- src/lib.rt:106:22
 enum-known-c : tie.Need-enum-known-c
 enum-known-c c = search needs
 
--- src/lib.rt:107:16
 enum-told : tie.Need-enum-told
 enum-told c = search needs
 
--- src/lib.rt:107:16
 sub-result : tie.Need-sub-result
 sub-result c = search needs
 
--- src/lib.rt:107:16
 part-result-start : tie.Need-part-result-start
 part-result-start c = search needs
 
--- src/lib.rt:107:16
 part-result-end : tie.Need-part-result-end
 part-result-end c = search needs
 
--- src/lib.rt:107:9
 returns : tie.Need-returns
-returns c = ?
+returns c =
+    let m = c .before .before .before in
+    let f = m .before .before .before .args .first in
+    rw (sym (m .compare .ensures) ∙ c .before .enum-told .given .1) (ap (λ (n : ℕ). (f .ptr .0, n)) (zero-add (f .ptr .1)), refl)
 
--- src/lib.rt:110:27
 enum-told-2 : tie.Need-enum-told-2
 enum-told-2 c = search needs
 
--- src/lib.rt:111:30
 enum-told-3 : tie.Need-enum-told-3
 enum-told-3 c = search needs
 
--- src/lib.rt:112:27
 enum-told-4 : tie.Need-enum-told-4
 enum-told-4 c = search needs
 
--- src/lib.rt:113:30
 enum-told-5 : tie.Need-enum-told-5
 enum-told-5 c = search needs
 
--- src/lib.rt:113:30
 sub-result-2 : tie.Need-sub-result-2
 sub-result-2 c = search needs
 
--- src/lib.rt:113:30
 part-result-start-2 : tie.Need-part-result-start-2
 part-result-start-2 c = search needs
 
--- src/lib.rt:113:30
 part-result-end-2 : tie.Need-part-result-end-2
 part-result-end-2 c = search needs
 
--- src/lib.rt:102:1
 returns-2 : tie.Need-returns-2
-returns-2 c = ?
+returns-2 c = let m = c .before .before .before in rw (sym (m .before .before .compare .ensures) ∙ m .c .given .1 ∙ ap Is (c .enum-told2 .given .1)) refl
 
--- src/lib.rt:102:1
 returns-3 : tie.Need-returns-3
-returns-3 c = ?
+returns-3 c = let m = c .before .before .before in rw (sym (m .before .before .compare .ensures) ∙ m .c .given .1 ∙ ap Is (c .enum-told3 .given .1)) refl
 
--- src/lib.rt:102:1
 returns-4 : tie.Need-returns-4
-returns-4 c = ?
+returns-4 c = let m = c .before .before .before in rw (sym (m .before .before .compare .ensures) ∙ m .c .given .1 ∙ ap Is (c .enum-told4 .given .1)) refl
 
--- src/lib.rt:102:1
 returns-5 : tie.Need-returns-5
-returns-5 c = ?
+returns-5 c =
+    let m = c .before .before .before .before in
+    let f = m .before .before .before .before .before .args .first in
+    rw (sym (m .before .before .compare .ensures) ∙ m .c .given .1 ∙ ap Is (c .before .enum-told5 .given .1))
+    (ap (λ (n : ℕ). (f .ptr .0, n)) (zero-add (f .ptr .1)), refl)
 
 pub keep-spec : {M : Type 1} → statement M
 keep-spec =
