@@ -87,7 +87,7 @@ returns-3 c =
     let l = f .before in
     let b = l .before .before .before .args .b .now in
     let e : Front b (l .loop .at) (At _ _) = subst (Front b (l .loop .at)) (p .p .given .1) (f .front .ensures) in
-    (found b (l .loop .at) _ _ e (l .loop .left) (c .if2 .taken) ∙ l .loop .inv, e .1)
+    (found b (l .loop .at) _ _ e (l .loop .left) (omega (arith, c .if2 .taken)) ∙ l .loop .inv, e .1)
 
 sub-left : tie.Need-sub-left Inv-loop μ-loop
 sub-left c = search needs
