@@ -7,8 +7,14 @@ ghost use Rattle.rules.specs.Packed.{wrote, comparedAfter, packedUpdate, packed
 ghost use Rattle.rules.specs.declared.Verdict.the-variants.{Equal};
 ghost use Rattle.rules.specs.declared.Compared.the-variants.{Is};
 ghost use Rattle.calls.specs.Keep.{keptIs};
-use packed::{read, size, write};
-use rules::{Answer, Compared, Refusal, Verdict, Written};
+use packed::read;
+use packed::size;
+use packed::write;
+use rules::Answer;
+use rules::Compared;
+use rules::Refusal;
+use rules::Verdict;
+use rules::Written;
 
 // The stamp after an edit, into out.
 pub fn update(stamp: &[u8], out: &mut [u8]) -> Written

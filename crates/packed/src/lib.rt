@@ -9,9 +9,15 @@ ghost use Rattle.rules.specs.Stored.{strsIn, held, blank, isStoredName, isStore
 ghost use Rattle.rules.specs.Packed.{bitsOf, stringBits, nameBits, packed, over, isFilling, readStamp, writtenStamp};
 ghost use Rattle.rules.specs.declared.Answer.the-variants.{Refused};
 ghost use Rattle.packed.specs.Cursors.{StringAt, NameAt, Ready, Put};
-use rules::{Answer, Given, Record, Refusal, Words, Written};
+use rules::Answer;
+use rules::Given;
+use rules::Record;
+use rules::Refusal;
+use rules::Words;
+use rules::Written;
 use stamps::is_lawful;
-use strings::{comes_before, DIGITS};
+use strings::DIGITS;
+use strings::comes_before;
 
 // A packed stamp has at most so many bytes.
 pub const BYTES: usize = 117;
@@ -40,7 +46,10 @@ pub fn read(b: &[u8]) -> Given
     if !is_lawful(stamp) {
         return refused(Refusal::Unlawful);
     }
-    Given { answer: Answer::Done, stamp }
+    Given {
+        answer: Answer::Done,
+        stamp,
+    }
 }
 
 // The bytes of r at the front of out, and the rest kept: refused 2 where r is unlawful, 10 where out is too short; then nothing is written.
@@ -74,8 +83,14 @@ fn refused(why: Refusal) -> Given
 {
     let words = [0; 16];
     let none = Words { count: 0, words };
-    let stamp = Record { update: none, id: none };
-    Given { answer: Answer::Refused(why), stamp }
+    let stamp = Record {
+        update: none,
+        id: none,
+    };
+    Given {
+        answer: Answer::Refused(why),
+        stamp,
+    }
 }
 
 // A string that was read: its word, and the bit behind it.
@@ -144,20 +159,36 @@ fn string_at(b: &[u8], pos: usize) -> OneString
 {
     let room = b.len() * 8 - pos;
     if room < 5 {
-        return OneString { ok: false, next: 0, word: 0 };
+        return OneString {
+            ok: false,
+            next: 0,
+            word: 0,
+        };
     }
     let n = bits_at(b, pos, 5);
     if DIGITS < n {
-        return OneString { ok: false, next: 0, word: 0 };
+        return OneString {
+            ok: false,
+            next: 0,
+            word: 0,
+        };
     }
     let w = n as usize;
     if room < w + 5 {
-        return OneString { ok: false, next: 0, word: 0 };
+        return OneString {
+            ok: false,
+            next: 0,
+            word: 0,
+        };
     }
     let at = pos + 5;
     let v = bits_at(b, at, w);
     let s = word(v, n);
-    OneString { ok: true, next: at + w, word: s }
+    OneString {
+        ok: true,
+        next: at + w,
+        word: s,
+    }
 }
 
 // No name reads.
@@ -166,7 +197,11 @@ fn no_name() -> OneName
 {
     let words = [0; 16];
     let name = Words { count: 0, words };
-    OneName { ok: false, next: 0, name }
+    OneName {
+        ok: false,
+        next: 0,
+        name,
+    }
 }
 
 // The name that begins at bit pos: each string after the one before it.
@@ -201,7 +236,11 @@ fn name_at(b: &[u8], pos: usize) -> OneName
         count += 1;
     }
     let name = Words { count, words };
-    OneName { ok: true, next, name }
+    OneName {
+        ok: true,
+        next,
+        name,
+    }
 }
 
 // Whether the bits from pos on are a filling: fewer than a byte has, and all zero.
@@ -271,7 +310,11 @@ fn put_stamp(out: &mut [u8], r: Record)
     requires { ⌜ (isStored narrow r ≡ true) × (length (packed narrow (held r)) ≤ length (now out)) ⌝ }
     ensures { λ _. ⌜ now (out .exit) ≡ over (packed narrow (held r)) (now (out .entry)) ⌝ }
 {
-    let start = Pen { at: 0, held: 0, acc: 0 };
+    let start = Pen {
+        at: 0,
+        held: 0,
+        acc: 0,
+    };
     let u = put_name(out, start, r.update);
     let i = put_name(out, u, r.id);
     let left = (8 - i.held) % 8;

@@ -92,14 +92,13 @@ loop-again c =
     let x = c .wide .result / 2 ^ (8 - at % 8 - k) in
     let h : d + k ≤ 24 = omega (arith, a .least .ensures) in
     let h8 : k ≤ 8 = omega (arith, a .least .ensures) in
-    let e : d + k ≡ g .args .w - (l .loop .left - k) = omega (arith, a .least .ensures) in
-    (
+    let e : d + k ≡ g .args .w - (l .loop .left - k) = omega (arith, a .least .ensures) in (
       omega (arith, a .least .ensures),
       search needs,
       rw e at (sum-lt (l .loop .acc) d k x (l .loop .inv .2) h h8),
       ap (λ (n : ℕ). valueFrom n (take (l .loop .left - k) (drop (at + k) (bitsOf b)))) (sum-is (l .loop .acc) d k x (l .loop .inv .2) h h8)
-      ∙ part-step b at (l .loop .left) k (l .loop .acc) (c .wide .result) _ (omega arith) (omega (arith, a .least .ensures))
-      (omega (arith, a .least .ensures)) (c .wide .ensures) (l .loop .inv .3),
+          ∙ part-step b at (l .loop .left) k (l .loop .acc) (c .wide .result) _ (omega arith) (omega (arith, a .least .ensures))
+          (omega (arith, a .least .ensures)) (c .wide .ensures) (l .loop .inv .3),
     )
 
 returns : tie.Need-returns Inv-loop μ-loop

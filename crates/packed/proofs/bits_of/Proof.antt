@@ -50,8 +50,7 @@ loop-again : tie.Need-loop-again Inv-loop μ-loop
 loop-again c =
     let l = c .before .before in
     let n = l .before .args .t1 in
-    let w = getD (n .words) (l .loop .i) 0 in
-    (
+    let w = getD (n .words) (l .loop .i) 0 in (
       search needs,
       search needs,
       omega arith,

@@ -203,12 +203,11 @@ loop-holds : tie.Need-loop-holds Inv-loop μ-loop
 loop-holds c =
     let s = c .before .before in
     let g = s .before .before .before .before .args in
-    let k = s .before .bits-at .result in
-    (
+    let k = s .before .bits-at .result in (
       count-le k (drop (g .pos) (bitsOf (g .b .now))) (s .before .bits-at .ensures),
       omega arith,
       started (g .b .now) (g .pos) k (k + 1 - 1) _ _ (s .before .bits-at .ensures) (omega arith) (omega arith)
-      (there (g .b .now) (g .pos + 4) _ _ _ (s .string-at .ensures) (not-false _ (c .if2 .left))),
+          (there (g .b .now) (g .pos + 4) _ _ _ (s .string-at .ensures) (not-false _ (c .if2 .left))),
     )
 
 string-at-requires-2 : tie.Need-string-at-requires-2 Inv-loop μ-loop
@@ -261,12 +260,11 @@ loop-again c =
     let t = c .before .before .before .before in
     let l = t .before .before in
     let g = l .before .before .before .before .before .before .before .args in
-    let h = there (g .b .now) (l .loop .next) _ _ _ (t .string-at2 .ensures) (not-false _ (c .before .before .if3 .left)) in
-    (
+    let h = there (g .b .now) (l .loop .next) _ _ _ (t .string-at2 .ensures) (not-false _ (c .before .before .if3 .left)) in (
       search needs,
       omega arith,
       stepped (g .b .now) (g .pos) _ _ (l .loop .last) _ (l .loop .next) _ (l .loop .count) (l .loop .words) (omega arith) (omega arith) (l .loop .inv .2) h
-      (sym (c .before .comes-before .ensures) ∙ not-false _ (c .if4 .left)),
+          (sym (c .before .comes-before .ensures) ∙ not-false _ (c .if4 .left)),
     )
 
 returns-5 : tie.Need-returns-5 Inv-loop μ-loop

@@ -93,8 +93,7 @@ add-acc c =
 loop-holds : tie.Need-loop-holds Inv-loop μ-loop
 loop-holds c =
     let g = c .before .before in
-    let p = g .args .p in
-    (
+    let p = g .args .p in (
       omega (arith, g .pre .2 .few),
       record {
         bits = refl;

@@ -89,8 +89,7 @@ sub-put c = let g = c .before .before in stored-filled narrow (g .args .t3) (g .
 put-requires : tie.Need-put-requires Inv-loop μ-loop
 put-requires c κs =
     let g = c .before .before in
-    let n = g .args .t3 in
-    (
+    let n = g .args .t3 in (
       search needs,
       omega (arith, stored-few narrow n (g .pre .0)),
       record { few = g .pre .1 .few; small = g .pre .1 .small; room = omega (arith, g .pre .1 .room, name-length (strsIn n)) },
@@ -100,13 +99,12 @@ loop-holds : tie.Need-loop-holds Inv-loop μ-loop
 loop-holds c =
     let p = c .before .before in
     let g = p .before .before .before in
-    let n = g .args .t3 in
-    (
+    let n = g .args .t3 in (
       search needs,
       stored-few narrow n (g .pre .0),
       refl,
       going (p .put .result) (p .put .last .0) (strsIn n) (p .put .ensures .few) (p .put .ensures .small)
-      (named narrow (strsIn n) (stored-name narrow n (g .pre .0)) .short),
+          (named narrow (strsIn n) (stored-name narrow n (g .pre .0)) .short),
     )
 
 mul-put-string : tie.Need-mul-put-string Inv-loop μ-loop
@@ -123,8 +121,7 @@ put-string-requires c κs =
     let n = g .args .t3 in
     let i = l .loop .inv .3 in
     let e = stored-cons narrow n (g .pre .0) (l .loop .i) (omega arith) in
-    let r = next-room _ _ (strsIn n) (l .loop .q) (l .loop .out) _ i _ _ e in
-    (
+    let r = next-room _ _ (strsIn n) (l .loop .q) (l .loop .out) _ i _ _ e in (
       next-short _ _ (strsIn n) (l .loop .q) (l .loop .out) _ i _ _ e,
       record {
         few = i .put .few;
@@ -154,8 +151,7 @@ loop-again c =
     let l = t .before .before .before .before in
     let p = l .before .before .before in
     let g = p .before .before .before in
-    let n = g .args .t3 in
-    (
+    let n = g .args .t3 in (
       search needs,
       search needs,
       t .put-string .kept .0 ∙ l .loop .inv .2,

@@ -45,8 +45,7 @@ whole r l k q m bytes few none p =
 
 put-name-requires : tie.Need-put-name-requires
 put-name-requires c κs =
-    let g = c .before .before in
-    (
+    let g = c .before .before in (
       stored-names narrow (g .args .r) (g .pre .0) .0,
       record { few = omega arith; small = omega arith; room = omega (arith, g .pre .1, record-size (g .args .r)) },
     )
@@ -55,8 +54,7 @@ put-name-requires-2 : tie.Need-put-name-requires-2
 put-name-requires-2 c κs =
     let u = c .before .before .before in
     let g = u .before .before .before in
-    let p = u .put-name .ensures in
-    (
+    let p = u .put-name .ensures in (
       stored-names narrow (g .args .r) (g .pre .0) .1,
       record { few = p .few; small = p .small; room = omega (arith, p .moved, u .put-name .kept .0, g .pre .1, record-size (g .args .r)) },
     )
@@ -69,8 +67,7 @@ put-requires c κs =
     let i = c .before .before .before .before in
     let u = i .before .before .before .before in
     let g = u .before .before .before in
-    let p = i .put-name2 .ensures in
-    (
+    let p = i .put-name2 .ensures in (
       omega arith,
       pow-pos _,
       record {

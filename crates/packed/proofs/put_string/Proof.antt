@@ -70,8 +70,7 @@ put-requires : tie.Need-put-requires
 put-requires c κs =
     let g = c .before .before in
     let w = g .args .s in
-    let n : w % 64 ≤ 24 = omega (arith, str-length w, g .pre .0) in
-    (
+    let n : w % 64 ≤ 24 = omega (arith, str-length w, g .pre .0) in (
       omega arith,
       number-lt w (w % 64) (g .fits .s .fits) n,
       record { few = g .pre .1 .few; small = g .pre .1 .small; room = omega (arith, g .pre .1 .room, string-length (strOf w), str-length w) },
