@@ -3,7 +3,7 @@ use mathlib.Core.Path.{sym, ap₂, _∙_}
 use Prim.Native.Nat.{ℕ, _+_}
 use native.Mathlib.Omega.{arith}
 use Rattle.rules.specs.Limits.{narrow, bytesFor}
-use Rattle.names.proofs.Shape.{stored-name}
+use Rattle.laws.proofs.Stored.{stored-name}
 use Rattle.stamps.proofs.Laws.{stored-names}
 use Rattle.packed.proofs.Laws.{name-most, record-length}
 use Rattle.packed.proofs.bytes_of.Statement.{statement}

@@ -13,7 +13,7 @@ use Rattle.rules.specs.Stored.{strsIn}
 use Rattle.rules.specs.Packed.{stringBits, stringsBits, nameBits}
 use Rattle.laws.proofs.Bits.{field-length}
 use Rattle.layout.proofs.Names.{allShort, named, short-head, short-tail}
-use Rattle.names.proofs.Shape.{stored-name}
+use Rattle.laws.proofs.Stored.{stored-name}
 use Rattle.stamps.proofs.Laws.{stored-count, stored-filled, stored-few, stored-cons, stored-end}
 use Rattle.packed.specs.Cursors.{Put}
 use Rattle.packed.specs.declared.Pen.{Pen}

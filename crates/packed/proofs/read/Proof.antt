@@ -23,7 +23,7 @@ use Rattle.rules.specs.declared.Answer.the-variants.{Done, Refused}
 use Rattle.laws.proofs.Tests.{and-both}
 use Rattle.layout.proofs.Bytes.{areBytes}
 use Rattle.layout.proofs.RoundTrip.{packed-unpacked, unpacked-names}
-use Rattle.names.proofs.Shape.{words-refl}
+use Rattle.laws.proofs.Stored.{words-refl}
 use Rattle.packed.specs.Cursors.{NameAt}
 use Rattle.packed.proofs.Laws.{name-found, name-missing, bytes-are, stamp-length, name-most}
 use Rattle.packed.proofs.read.Statement.{statement}
