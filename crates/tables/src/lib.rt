@@ -2,73 +2,99 @@
 // records by value to a rule that is total, and stores what the rule gives back. A refusing rule gives back what it got.
 // Answers are numbers, as slotNumber, comparedNumber and sparedNumber of the rules say: a refusal is 1,000 plus its number.
 ghost use mathlib.Core.Path.{_≡_};
-ghost use mathlib.Core.Bool.{Bool};
+ghost use mathlib.Core.List.{[]};
 ghost use Prim.Native.Nat.{ℕ, _≤_, _<_};
-ghost use lib.ListN.{length, getD, set};
+ghost use lib.ListN.{replicate};
 ghost use Rattle.rules.specs.Limits.{narrow};
-ghost use Rattle.rules.specs.Packed.{comparedNumber};
-ghost use Rattle.rules.specs.Tables.{slotNumber, sparedNumber, makeFresh, updateAt, forkAt, joinAt, compareAt, spareAt};
-use rules::{Answer, Compared, Record, Refusal, Verdict, Words};
+ghost use Rattle.rules.specs.Stored.{sameWords, wordsOf, absent, blank};
+ghost use Rattle.rules.specs.Tables.{slotNumber, makeFresh};
+ghost use Rattle.tables.specs.Gates.{gateCode, roomOf, roomCode, freshSlot, zeros};
+use rules::Record;
+use rules::Words;
 
-// What a rule answers and leaves in one record.
-pub struct One {
-    pub code: u64,
-    pub first: Record,
-}
-
-// What a rule answers and leaves in two records.
-pub struct Two {
-    pub code: u64,
-    pub first: Record,
-    pub second: Record,
-}
-
-// A fresh table: [e|e] in slot 0 and nothing else. 0, or 1012.
-pub fn fresh(t: &mut [Record]) -> u64
-    ensures { λ r. ⌜ (r ≡ slotNumber (makeFresh narrow (now (t .entry)) .answer)) × (now (t .exit) ≡ makeFresh narrow (now (t .entry)) .table) ⌝ }
-
-// Slot a's copy was edited.
-pub fn update(t: &mut [Record], a: usize) -> u64
-    ensures { λ r. ⌜ (r ≡ slotNumber (updateAt narrow (now (t .entry)) a .answer)) × (now (t .exit) ≡ updateAt narrow (now (t .entry)) a .table) ⌝ }
+// Whether the name's record is all zeros.
+fn is_zeros(n: Words) -> bool
+    ensures { λ r. ⌜ r ≡ sameWords n (wordsOf narrow []) ⌝ }
 {
-    let g = gate(t.len(), a, a);
-    if g == 0 {
-        let d = update_rule(a, t[a]);
-        t[a] = d.first;
-        return d.code;
+    if n.count != 0 {
+        return false;
     }
-    g
+    let mut i = 0;
+    while i < 16 {
+        if n.words[i] != 0 {
+            return false;
+        }
+        i += 1;
+    }
+    true
 }
 
-// A copy of slot a in the lowest absent slot, which the answer names.
-pub fn fork(t: &mut [Record], a: usize) -> u64
-    ensures { λ r. ⌜ (r ≡ slotNumber (forkAt narrow (now (t .entry)) a .answer)) × (now (t .exit) ≡ forkAt narrow (now (t .entry)) a .table) ⌝ }
-
-// The copies of a and b become one, in slot a.
-pub fn join(t: &mut [Record], a: usize, b: usize) -> u64
-    ensures { λ r. ⌜ (r ≡ slotNumber (joinAt narrow (now (t .entry)) a b .answer)) × (now (t .exit) ≡ joinAt narrow (now (t .entry)) a b .table) ⌝ }
+// Whether there is no copy in the record.
+fn is_absent(r: Record) -> bool
+    ensures { λ b. ⌜ b ≡ absent narrow r ⌝ }
 {
-    let g = gate(t.len(), a, b);
-    if g == 0 {
-        let d = join_rule(a, b, t[a], t[b]);
-        t[a] = d.first;
-        t[b] = d.second;
-        return d.code;
+    let u = r.update;
+    let i = r.id;
+    if is_zeros(u) {
+        return is_zeros(i);
     }
-    g
+    false
 }
 
-// How the copy in slot a stands to that in slot b.
-pub fn compare(t: &[Record], a: usize, b: usize) -> u64
-    ensures { λ r. ⌜ r ≡ comparedNumber (compareAt narrow (now (t .entry)) a b) ⌝ }
+// The record whose two names have c strings, each of them empty.
+fn empties(c: usize) -> Record
+    ensures { λ r. ⌜ r ≡ zeros c ⌝ }
 {
-    let g = gate(t.len(), a, b);
-    if g == 0 {
-        return compare_rule(a, b, t[a], t[b]);
-    }
-    g
+    let w = [0; 16];
+    let n = Words { count: c, words: w };
+    Record { update: n, id: n }
 }
 
-// Whether slot a's copy is obsolete relative to some other: 0 kept, 1 spare.
-pub fn spare(t: &[Record], a: usize) -> u64
-    ensures { λ r. ⌜ r ≡ sparedNumber (spareAt narrow (now (t .entry)) a) ⌝ }
+// What can be refused without looking at a record: 0, or the refusal.
+fn gate(n: usize, a: usize, b: usize) -> u64
+    ensures { λ r. ⌜ r ≡ gateCode n a b ⌝ }
+{
+    if n == 0 {
+        return 1012;
+    }
+    if 32 < n {
+        return 1012;
+    }
+    if n <= a {
+        return 1003;
+    }
+    if n <= b {
+        return 1003;
+    }
+    0
+}
+
+// How many slots of n a fresh table fills: all, or none where the size is refused.
+fn room(n: usize) -> usize
+    ensures { λ r. ⌜ r ≡ roomOf n ⌝ }
+{
+    if 32 < n {
+        return 0;
+    }
+    n
+}
+
+// What the making of a fresh table that fills m slots answers.
+fn room_code(m: usize) -> u64
+    ensures { λ r. ⌜ r ≡ roomCode m ⌝ }
+{
+    if m == 0 {
+        return 1012;
+    }
+    0
+}
+
+// What a fresh table has in slot i.
+fn fresh_slot(i: usize) -> Record
+    ensures { λ r. ⌜ r ≡ freshSlot i ⌝ }
+{
+    if i == 0 {
+        return empties(1);
+    }
+    empties(0)
+}

@@ -1,0 +1,2 @@
+-- What the functions below the public ones answer, in the shape of the code.
+pub mod Gates
