@@ -98,3 +98,16 @@ fn fresh_slot(i: usize) -> Record
     }
     empties(0)
 }
+
+// A fresh table: [e|e] in slot 0 and nothing else. 0, or 1012.
+pub fn fresh(t: &mut [Record]) -> u64
+    ensures { λ r. ⌜ (r ≡ slotNumber (makeFresh narrow (now (t .entry)) .answer)) × (now (t .exit) ≡ makeFresh narrow (now (t .entry)) .table) ⌝ }
+{
+    let m = room(t.len());
+    let mut i = 0;
+    while i < m {
+        t[i] = fresh_slot(i);
+        i += 1;
+    }
+    room_code(m)
+}
