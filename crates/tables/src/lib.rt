@@ -6,11 +6,45 @@ ghost use mathlib.Core.List.{[]};
 ghost use Prim.Native.Nat.{ℕ, _≤_, _<_};
 ghost use lib.ListN.{replicate};
 ghost use Rattle.rules.specs.Limits.{narrow};
-ghost use Rattle.rules.specs.Stored.{sameWords, wordsOf, absent, blank};
-ghost use Rattle.rules.specs.Tables.{slotNumber, makeFresh};
+ghost use Rattle.rules.specs.Packed.{comparedNumber};
+ghost use Rattle.rules.specs.Refusals.{number, verdictNumber};
+ghost use Rattle.rules.specs.Stored.{sameWords, wordsOf, absent, isStored};
+ghost use Rattle.rules.specs.Values.{updated, forked, compared, joined};
+ghost use Rattle.rules.specs.Tables.{slotNumber, sparedNumber, makeFresh, updateAt, forkAt, joinAt, compareAt, spareAt};
 ghost use Rattle.tables.specs.Gates.{gateCode, roomOf, roomCode, freshSlot, zeros};
+ghost use Rattle.tables.specs.Rules.{codeOf, oneOf, twoOf, updateRule, forkRule, joinRule, compareRule};
+ghost use Rattle.tables.specs.Scans.{nextOf, obsoleteNumber, spareCode, meetCode, seekOf, weighOf, lookOf, scanOf, seekStart, weighStart};
+use rules::Answer;
+use rules::Compared;
+use rules::Forked;
+use rules::Given;
 use rules::Record;
+use rules::Refusal;
+use rules::Verdict;
 use rules::Words;
+
+// What a rule answers and leaves in one record.
+pub struct One {
+    pub code: u64,
+    pub first: Record,
+}
+
+// What a rule answers and leaves in two records.
+pub struct Two {
+    pub code: u64,
+    pub first: Record,
+    pub second: Record,
+}
+
+// Where a pass over the table stands: what it looks for (0 an absent slot, 1 a copy that makes slot `at` obsolete),
+// slot `at`'s record, the slot that comes next, the slot of the call or the one found, and the answer, 0 while there is none.
+pub struct Scan {
+    pub kind: u64,
+    pub mine: Record,
+    pub next: usize,
+    pub at: usize,
+    pub code: u64,
+}
 
 // Whether the name's record is all zeros.
 fn is_zeros(n: Words) -> bool
@@ -110,4 +144,222 @@ pub fn fresh(t: &mut [Record]) -> u64
         i += 1;
     }
     room_code(m)
+}
+
+// A refusal's number.
+fn refusal_number(r: Refusal) -> u64
+    ensures { λ n. ⌜ n ≡ number r ⌝ }
+{
+    match r {
+        Refusal::Malformed => 1,
+        Refusal::Unlawful => 2,
+        Refusal::NoSlot => 3,
+        Refusal::OneSlot => 4,
+        Refusal::Full => 5,
+        Refusal::Long => 6,
+        Refusal::Many => 7,
+        Refusal::Overlap => 8,
+        Refusal::Unseen => 9,
+        Refusal::Short => 10,
+        Refusal::Unread => 11,
+        Refusal::Unfit => 12,
+        Refusal::Ended => 13,
+    }
+}
+
+// A refusal as an answer: 1,000 and its number.
+fn refusal_code(r: Refusal) -> u64
+    ensures { λ n. ⌜ n ≡ codeOf r ⌝ }
+{
+    1000 + refusal_number(r)
+}
+
+// A verdict's number.
+fn verdict_code(v: Verdict) -> u64
+    ensures { λ n. ⌜ n ≡ verdictNumber v ⌝ }
+{
+    match v {
+        Verdict::Equal => 0,
+        Verdict::Obsolete => 1,
+        Verdict::Newer => 2,
+        Verdict::Conflict => 3,
+    }
+}
+
+// What a comparison says, as a number.
+fn compared_code(c: Compared) -> u64
+    ensures { λ n. ⌜ n ≡ comparedNumber c ⌝ }
+{
+    match c {
+        Compared::Is(v) => verdict_code(v),
+        Compared::Refused(r) => refusal_code(r),
+    }
+}
+
+// 1 where the comparison lets the first go, 0 where it keeps it.
+fn spare_code(c: Compared) -> u64
+    ensures { λ n. ⌜ n ≡ spareCode c ⌝ }
+{
+    match c {
+        Compared::Is(v) => is_obsolete(v),
+        Compared::Refused(r) => refusal_code(r),
+    }
+}
+
+// 1 where the first is obsolete, else 0.
+fn is_obsolete(v: Verdict) -> u64
+    ensures { λ n. ⌜ n ≡ obsoleteNumber v ⌝ }
+{
+    match v {
+        Verdict::Equal => 0,
+        Verdict::Obsolete => 1,
+        Verdict::Newer => 0,
+        Verdict::Conflict => 0,
+    }
+}
+
+// The record becomes x, or stays on a refusal.
+fn settle_one(answer: Answer, n: usize, s: Record, x: Record) -> One
+    ensures { λ d. ⌜ d ≡ oneOf answer n s x ⌝ }
+{
+    match answer {
+        Answer::Done => One {
+            code: n as u64,
+            first: x,
+        },
+        Answer::Refused(r) => One {
+            code: refusal_code(r),
+            first: s,
+        },
+    }
+}
+
+// The records become x and y, or stay on a refusal.
+fn settle_two(answer: Answer, n: usize, s: Record, u: Record, x: Record, y: Record) -> Two
+    ensures { λ d. ⌜ d ≡ twoOf answer n s u x y ⌝ }
+{
+    match answer {
+        Answer::Done => Two {
+            code: n as u64,
+            first: x,
+            second: y,
+        },
+        Answer::Refused(r) => Two {
+            code: refusal_code(r),
+            first: s,
+            second: u,
+        },
+    }
+}
+
+// The slot after n, as far as a table goes.
+fn after(n: usize) -> usize
+    ensures { λ r. ⌜ r ≡ nextOf n ⌝ }
+{
+    if n < 32 {
+        return n + 1;
+    }
+    n
+}
+
+// A slot that is looked at for an absent one.
+fn seek(s: Scan, r: Record) -> Scan
+    ensures { λ x. ⌜ x ≡ seekOf s r ⌝ }
+{
+    let kind = s.kind;
+    let mine = s.mine;
+    let here = s.next;
+    let at = s.at;
+    let next = after(here);
+    if is_absent(r) {
+        return Scan {
+            kind: kind,
+            mine: mine,
+            next: next,
+            at: here,
+            code: 1,
+        };
+    }
+    Scan {
+        kind: kind,
+        mine: mine,
+        next: next,
+        at: at,
+        code: 0,
+    }
+}
+
+// What m is told beside r: 1 where it may go, 0 where it is kept, or the refusal.
+fn meet_code(m: Record, r: Record) -> u64
+    ensures { λ n. ⌜ n ≡ meetCode m r ⌝ }
+{
+    if stamps::is_lawful(r) {
+        return spare_code(stamps::compare(m, r));
+    }
+    1012
+}
+
+// A slot that is looked at for a copy that makes slot `at` obsolete.
+fn weigh(s: Scan, r: Record) -> Scan
+    ensures { λ x. ⌜ x ≡ weighOf s r ⌝ }
+{
+    let kind = s.kind;
+    let mine = s.mine;
+    let here = s.next;
+    let at = s.at;
+    let next = after(here);
+    if at == here {
+        return Scan {
+            kind: kind,
+            mine: mine,
+            next: next,
+            at: at,
+            code: 0,
+        };
+    }
+    if is_absent(r) {
+        return Scan {
+            kind: kind,
+            mine: mine,
+            next: next,
+            at: at,
+            code: 0,
+        };
+    }
+    let code = meet_code(mine, r);
+    Scan {
+        kind: kind,
+        mine: mine,
+        next: next,
+        at: at,
+        code: code,
+    }
+}
+
+// What one slot does to where the pass stands: an answer that is found stays.
+fn look(s: Scan, r: Record) -> Scan
+    ensures { λ x. ⌜ x ≡ lookOf s r ⌝ }
+{
+    let code = s.code;
+    let kind = s.kind;
+    if code != 0 {
+        return s;
+    }
+    if kind == 0 {
+        return seek(s, r);
+    }
+    weigh(s, r)
+}
+
+// One pass over the table.
+fn scan_all(t: &[Record], start: Scan) -> Scan
+    ensures { λ r. ⌜ r ≡ scanOf start (now (t .entry)) ⌝ }
+{
+    let mut acc = start;
+    let mut i = 0;
+    while i < t.len() {
+        acc = look(acc, t[i]);
+        i += 1;
+    }
+    acc
 }

@@ -157,7 +157,7 @@ module _ {M : Type 1} (𝓤 : URA M) (H : Heap 𝓤) (A : Atoms 𝓤) (W : Given
   goes-slot i h = qed W [] ∵ nothing ! $ owned ! usize (Is usize) (uint-makes 𝓤 H A W w64) i _ (refl, h) $ fjoin ! $ nothing ! $ join ! $ frame ! $ done !
 
   module _ (𝓣 : Tables 𝓤 H) (known-slot : Triple 𝓤 (𝓣 .C #tables·fresh-slot) (SlotC 𝓤 H A at-mem run)) (known-code : Triple 𝓤 (𝓣 .C #tables·room-code) (CodeC 𝓤 H A at-mem run))
-    (gn : Room T.the-row (length ys)) (gm : m < 2 ^ 64) (l₀ l₁ l₂ l₃ l₄ l₅ l₆ l₇ l₈ : ℕ) where
+      (gn : Room T.the-row (length ys)) (gm : m < 2 ^ 64) (l₀ l₁ l₂ l₃ l₄ l₅ l₆ l₇ l₈ : ℕ) where
     abbrev En : Env 𝓤 H
     En = (word, l₀) ∷ (slice, l₁) ∷ (word, l₂) ∷ (word, l₃) ∷ (word, l₄) ∷ (tyBool, l₅) ∷ (T′.mir, l₆) ∷ (word, l₇) ∷ (tyPtr, l₈) ∷ []
 
@@ -274,7 +274,7 @@ module _ {M : Type 1} (𝓤 : URA M) (H : Heap 𝓤) (A : Atoms 𝓤) (W : Given
       from-loop 𝓣 known-slot known-code gn (im .1) l₀ l₁ l₂ l₃ l₄ l₅ l₆ l₇ l₈ starts)))))))))))))
 
 module _ {M : Type 1} (𝓤 : URA M) (H : Heap 𝓤) (A : Atoms 𝓤) (W : Given 𝓤 H A) (at-mem : Memory → SProp 𝓤) (run : Routine → Fun 𝓤) (𝓣 : Tables 𝓤 H)
-  (known-room : Triple 𝓤 (𝓣 .C #tables·room) (RoomC 𝓤 H A at-mem run)) (known-slot : Triple 𝓤 (𝓣 .C #tables·fresh-slot) (SlotC 𝓤 H A at-mem run)) (known-code : Triple 𝓤 (𝓣 .C #tables·room-code) (CodeC 𝓤 H A at-mem run)) where
+    (known-room : Triple 𝓤 (𝓣 .C #tables·room) (RoomC 𝓤 H A at-mem run)) (known-slot : Triple 𝓤 (𝓣 .C #tables·fresh-slot) (SlotC 𝓤 H A at-mem run)) (known-code : Triple 𝓤 (𝓣 .C #tables·room-code) (CodeC 𝓤 H A at-mem run)) where
   fresh-walks : Walks 𝓤 H A f.ended stayed (WpFn 𝓤 H (𝓣 .C) (𝓣 .Λ) code.function) (f.clauses 𝓤 H A at-mem run)
   fresh-walks = walked 𝓤 H A f.ended stayed (f.clauses 𝓤 H A at-mem run) (WpFn 𝓤 H (𝓣 .C) (𝓣 .Λ) code.function) (λ κs. (slice-vals, tt)) (λ κs. (mut-slice-tells (named 0) (κs .0) T.the-row, tt))
       (λ κs qs bounds a _ are. via 𝓤 _ (fst∗ 𝓤 _ (emp 𝓤)) (walk 𝓤 H A W at-mem run (κs .0) (qs .0) (a .0 .ptr .0) (a .0 .ptr .1) (a .0 .name) (a .0 .now) 𝓣 known-room known-slot known-code (are .0 .0 .1)))
