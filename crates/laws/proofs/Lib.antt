@@ -6,4 +6,12 @@ pub mod Bits
 pub mod Below
 pub mod Union
 pub mod Settle
+pub mod Pairs
 pub mod Words
+pub mod Sums
+pub mod Steps
+pub mod Reduce
+pub mod Shares
+pub mod Counts
+pub mod Fork
+pub mod Lawful
