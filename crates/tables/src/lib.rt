@@ -7,12 +7,12 @@ ghost use Prim.Native.Nat.{ℕ, _≤_, _<_};
 ghost use lib.ListN.{replicate};
 ghost use Rattle.rules.specs.Limits.{narrow};
 ghost use Rattle.rules.specs.Packed.{comparedNumber};
-ghost use Rattle.rules.specs.Refusals.{number, verdictNumber};
+ghost use Rattle.rules.specs.Refusals.{number, verdictNumber, first};
 ghost use Rattle.rules.specs.Stored.{sameWords, wordsOf, absent, isStored};
 ghost use Rattle.rules.specs.Values.{updated, forked, compared, joined};
 ghost use Rattle.rules.specs.Tables.{slotNumber, sparedNumber, makeFresh, updateAt, forkAt, joinAt, compareAt, spareAt};
 ghost use Rattle.tables.specs.Gates.{gateCode, roomOf, roomCode, freshSlot, zeros};
-ghost use Rattle.tables.specs.Rules.{codeOf, oneOf, twoOf, updateRule, forkRule, joinRule, compareRule};
+ghost use Rattle.tables.specs.Rules.{codeOf, answerCode, twoOf, slotTests, updateRule, forkRule, joinRule, compareRule};
 ghost use Rattle.tables.specs.Scans.{nextOf, obsoleteNumber, spareCode, meetCode, seekOf, weighOf, lookOf, scanOf, seekStart, weighStart};
 use rules::Answer;
 use rules::Compared;
@@ -218,22 +218,6 @@ fn is_obsolete(v: Verdict) -> u64
     }
 }
 
-// The record becomes x, or stays on a refusal.
-fn settle_one(answer: Answer, n: usize, s: Record, x: Record) -> One
-    ensures { λ d. ⌜ d ≡ oneOf answer n s x ⌝ }
-{
-    match answer {
-        Answer::Done => One {
-            code: n as u64,
-            first: x,
-        },
-        Answer::Refused(r) => One {
-            code: refusal_code(r),
-            first: s,
-        },
-    }
-}
-
 // The records become x and y, or stay on a refusal.
 fn settle_two(answer: Answer, n: usize, s: Record, u: Record, x: Record, y: Record) -> Two
     ensures { λ d. ⌜ d ≡ twoOf answer n s u x y ⌝ }
@@ -362,4 +346,117 @@ fn scan_all(t: &[Record], start: Scan) -> Scan
         i += 1;
     }
     acc
+}
+
+// Before the first slot, in search of an absent one; a is the slot of the call.
+fn seek_start(a: usize) -> Scan
+    ensures { λ s. ⌜ s ≡ seekStart a ⌝ }
+{
+    let none = empties(0);
+    Scan {
+        kind: 0,
+        mine: none,
+        next: 0,
+        at: a,
+        code: 0,
+    }
+}
+
+// Before the first slot, in search of a copy that makes slot a obsolete, whose record is r.
+fn weigh_start(a: usize, r: Record) -> Scan
+    ensures { λ s. ⌜ s ≡ weighStart a r ⌝ }
+{
+    let code = slot_code(r);
+    Scan {
+        kind: 1,
+        mine: r,
+        next: 0,
+        at: a,
+        code: code,
+    }
+}
+
+// What is asked of a slot's record first: 0, or the refusal.
+fn slot_code(r: Record) -> u64
+    ensures { λ n. ⌜ n ≡ answerCode (first (slotTests r [])) 0 ⌝ }
+{
+    if is_absent(r) {
+        return 1003;
+    }
+    if stamps::is_lawful(r) {
+        return 0;
+    }
+    1012
+}
+
+// The rule of update: what slot a answers, and holds afterwards.
+fn update_rule(a: usize, s: Record) -> One
+    ensures { λ d. ⌜ d ≡ updateRule a s ⌝ }
+{
+    if is_absent(s) {
+        return One { code: 1003, first: s };
+    }
+    if stamps::is_lawful(s) {
+        let g = stamps::update(s);
+        let x = g.stamp;
+        return One {
+            code: a as u64,
+            first: x,
+        };
+    }
+    One { code: 1012, first: s }
+}
+
+// The rule of fork: s is slot a's record, u that of slot b, the lowest absent; found is 0 where none is.
+fn fork_rule(b: usize, found: u64, s: Record, u: Record) -> Two
+    ensures { λ d. ⌜ d ≡ forkRule b found s u ⌝ }
+{
+    if is_absent(s) {
+        return Two {
+            code: 1003,
+            first: s,
+            second: u,
+        };
+    }
+    if !stamps::is_lawful(s) {
+        return Two {
+            code: 1012,
+            first: s,
+            second: u,
+        };
+    }
+    if found == 0 {
+        return Two {
+            code: 1005,
+            first: s,
+            second: u,
+        };
+    }
+    let f = stamps::fork(s);
+    let answer = f.answer;
+    let x = f.zero;
+    let y = f.one;
+    settle_two(answer, b, s, u, x, y)
+}
+
+// The rule of compare: a slot is equal to itself.
+fn compare_rule(a: usize, b: usize, s: Record, u: Record) -> u64
+    ensures { λ n. ⌜ n ≡ compareRule a b s u ⌝ }
+{
+    if is_absent(s) {
+        return 1003;
+    }
+    if is_absent(u) {
+        return 1003;
+    }
+    if !stamps::is_lawful(s) {
+        return 1012;
+    }
+    if !stamps::is_lawful(u) {
+        return 1012;
+    }
+    if a == b {
+        return 0;
+    }
+    compared_code(stamps::compare(s, u))
 }
