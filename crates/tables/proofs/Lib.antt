@@ -1,3 +1,5 @@
 pub mod Zeros
 pub mod Filled
 pub mod Forms
+pub mod Passes
+pub mod Tied
