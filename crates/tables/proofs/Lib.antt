@@ -3,3 +3,4 @@ pub mod Filled
 pub mod Forms
 pub mod Passes
 pub mod Tied
+pub mod Asks

@@ -30,7 +30,7 @@ use Rattle.tables.specs.declared.One.{One}
 use Rattle.tables.specs.declared.Two.{Two}
 use Rattle.tables.specs.declared.Scan.{Scan}
 use Rattle.tables.specs.Gates.{gateCode, zeros}
-use Rattle.tables.specs.Rules.{codeOf, answerCode, oneOf, twoOf, slotTests, updateRule, forkRule, joinRule, compareRule}
+use Rattle.tables.specs.Rules.{codeOf, answerCode, oneOf, twoOf, slotTests, updateRule, forkRule, joinRule, compareRule, forkCode, forkList}
 use Rattle.tables.specs.Scans.{scanOf, seekStart, weighStart}
 use Rattle.tables.proofs.Passes.{Sought, sought, lowest-le, weighed, settled}
 
@@ -181,13 +181,6 @@ join-tied t a b = by (gates (length t) a b)
 
 abbrev pub sought-in : Table → ℕ → Scan
 sought-in t a = scanOf (seekStart a) t
-
-abbrev pub forkCode : Table → ℕ → ℕ → ℕ → ℕ
-forkCode t a b found = cond (eqb (gateCode (length t) a b) 0) (forkRule b found (at t a) (at t b) .code) (gateCode (length t) a b)
-
-abbrev pub forkList : Table → ℕ → ℕ → ℕ → Table
-forkList t a b found =
-    cond (eqb (gateCode (length t) a b) 0) (set (set t a (forkRule b found (at t a) (at t b) .first)) b (forkRule b found (at t a) (at t b) .second)) t
 
 abbrev Forks : Table → ℕ → ℕ → ℕ → Type 0
 Forks t a b found = (forkCode t a b found ≡ slotNumber (forkAt narrow t a .answer)) × (forkList t a b found ≡ forkAt narrow t a .table)

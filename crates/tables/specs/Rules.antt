@@ -3,12 +3,14 @@ use mathlib.Core.Bool.{Bool, true, false, cond, not, _&&_, _||_}
 use mathlib.Core.List.{List, [], _∷_}
 use Prim.Native.Nat.{ℕ, _+_}
 use lib.Dec.{eqb}
+use lib.ListN.{length, set}
 use Rattle.rules.specs.Limits.{narrow}
 use Rattle.rules.specs.Stamps.{Stamp, update, fork, join, compare}
 use Rattle.rules.specs.Stored.{stored, held, unlawful, blank, absent}
 use Rattle.rules.specs.Refusals.{number, first, long, many, overlap, unseen}
 use Rattle.rules.specs.Values.{told}
 use Rattle.rules.specs.Packed.{comparedNumber}
+use Rattle.rules.specs.Tables.{Table, at}
 use Rattle.rules.specs.declared.Record.{Record}
 use Rattle.rules.specs.declared.Verdict.the-variants.{Equal}
 use Rattle.rules.specs.declared.Refusal.{Refusal}
@@ -16,6 +18,7 @@ use Rattle.rules.specs.declared.Refusal.the-variants.{NoSlot, OneSlot, Full, Lo
 use Rattle.rules.specs.declared.Answer.{Answer}
 use Rattle.rules.specs.declared.Answer.the-variants.{Done, Refused}
 use Rattle.rules.specs.declared.Verdict.{Verdict}
+use Rattle.tables.specs.Gates.{gateCode}
 use Rattle.tables.specs.declared.One.{One}
 use Rattle.tables.specs.declared.Two.{Two}
 
@@ -85,3 +88,12 @@ compareRule a b s u =
     ∷ (not (eqb a b) && unseen (held s) (held u), Unseen)
     ∷ []))
     (cond (eqb a b) Equal (compare (held s) (held u))))
+
+-- ---- the rule of fork at two slots of a table, behind the gate
+
+abbrev pub forkCode : Table → ℕ → ℕ → ℕ → ℕ
+forkCode t a b found = cond (eqb (gateCode (length t) a b) 0) (forkRule b found (at t a) (at t b) .code) (gateCode (length t) a b)
+
+abbrev pub forkList : Table → ℕ → ℕ → ℕ → Table
+forkList t a b found =
+    cond (eqb (gateCode (length t) a b) 0) (set (set t a (forkRule b found (at t a) (at t b) .first)) b (forkRule b found (at t a) (at t b) .second)) t

@@ -12,7 +12,7 @@ ghost use Rattle.rules.specs.Stored.{sameWords, wordsOf, absent, isStored};
 ghost use Rattle.rules.specs.Values.{updated, forked, compared, joined};
 ghost use Rattle.rules.specs.Tables.{slotNumber, sparedNumber, makeFresh, updateAt, forkAt, joinAt, compareAt, spareAt};
 ghost use Rattle.tables.specs.Gates.{gateCode, roomOf, roomCode, freshSlot, zeros};
-ghost use Rattle.tables.specs.Rules.{codeOf, answerCode, twoOf, slotTests, updateRule, forkRule, joinRule, compareRule};
+ghost use Rattle.tables.specs.Rules.{codeOf, answerCode, twoOf, slotTests, updateRule, forkRule, joinRule, compareRule, forkCode, forkList};
 ghost use Rattle.tables.specs.Scans.{nextOf, obsoleteNumber, spareCode, meetCode, seekOf, weighOf, lookOf, scanOf, seekStart, weighStart};
 use rules::Answer;
 use rules::Compared;
@@ -459,4 +459,62 @@ fn compare_rule(a: usize, b: usize, s: Record, u: Record) -> u64
         return 0;
     }
     compared_code(stamps::compare(s, u))
+}
+
+// Slot a's copy was edited.
+pub fn update(t: &mut [Record], a: usize) -> u64
+    ensures { λ r. ⌜ (r ≡ slotNumber (updateAt narrow (now (t .entry)) a .answer)) × (now (t .exit) ≡ updateAt narrow (now (t .entry)) a .table) ⌝ }
+{
+    let g = gate(t.len(), a, a);
+    if g == 0 {
+        let d = update_rule(a, t[a]);
+        t[a] = d.first;
+        return d.code;
+    }
+    g
+}
+
+// How the copy in slot a stands to that in slot b.
+pub fn compare(t: &[Record], a: usize, b: usize) -> u64
+    ensures { λ r. ⌜ r ≡ comparedNumber (compareAt narrow (now (t .entry)) a b) ⌝ }
+{
+    let g = gate(t.len(), a, b);
+    if g == 0 {
+        return compare_rule(a, b, t[a], t[b]);
+    }
+    g
+}
+
+// A copy of slot a in slot b: found is 0 where b is not absent.
+fn fork_at(t: &mut [Record], a: usize, b: usize, found: u64) -> u64
+    ensures { λ r. ⌜ (r ≡ forkCode (now (t .entry)) a b found) × (now (t .exit) ≡ forkList (now (t .entry)) a b found) ⌝ }
+{
+    let g = gate(t.len(), a, b);
+    if g == 0 {
+        let d = fork_rule(b, found, t[a], t[b]);
+        t[a] = d.first;
+        t[b] = d.second;
+        return d.code;
+    }
+    g
+}
+
+// A copy of slot a in the lowest absent slot, which the answer names.
+pub fn fork(t: &mut [Record], a: usize) -> u64
+    ensures { λ r. ⌜ (r ≡ slotNumber (forkAt narrow (now (t .entry)) a .answer)) × (now (t .exit) ≡ forkAt narrow (now (t .entry)) a .table) ⌝ }
+{
+    let s = scan_all(t, seek_start(a));
+    fork_at(t, a, s.at, s.code)
+}
+
+// Whether slot a's copy is obsolete relative to some other: 0 kept, 1 spare.
+pub fn spare(t: &[Record], a: usize) -> u64
+    ensures { λ r. ⌜ r ≡ sparedNumber (spareAt narrow (now (t .entry)) a) ⌝ }
+{
+    let g = gate(t.len(), a, a);
+    if g == 0 {
+        let s = scan_all(t, weigh_start(a, t[a]));
+        return s.code;
+    }
+    g
 }
