@@ -15,3 +15,4 @@ pub mod Shares
 pub mod Counts
 pub mod Fork
 pub mod Lawful
+pub mod Stored

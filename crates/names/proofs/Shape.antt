@@ -101,7 +101,8 @@ unfolding all isWord sameNumbers
 words-test most [] = refl
 words-test most (w ∷ l) =
     ap (λ (b : Bool). (leb (length (strOf w)) most && eqb w (wordOf (strOf w))) && b) (words-test most l)
-    ∙ and-swap (leb (length (strOf w)) most) (eqb w (wordOf (strOf w))) (all (λ s. leb (length s) most) (map strOf l)) (sameNumbers l (map wordOf (map strOf l)))
+    ∙ and-swap (leb (length (strOf w)) most) (eqb w (wordOf (strOf w)))
+    (all (λ s. leb (length s) most) (map strOf l)) (sameNumbers l (map wordOf (map strOf l)))
 
 zero-either : (n : ℕ) → eqb 0 n ≡ eqb n 0
 zero-either zero = refl

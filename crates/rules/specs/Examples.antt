@@ -1,4 +1,4 @@
--- "Checked by hand": P1 to P10, and one case more, by one theorem over one list. Beside an example stands the slip that it shuts out.
+-- "Checked by hand": P1 to P10, and two cases more, by one theorem over one list. Beside an example stands the slip that it shuts out.
 use mathlib.Core.Path.{_≡_, refl}
 use mathlib.Core.Bool.{Bool, true, false}
 use mathlib.Core.List.{List, [], _∷_, _++_, map}
@@ -8,10 +8,12 @@ use Rattle.rules.specs.Limits.{Limits, narrow}
 use Rattle.rules.specs.Strings.{Str, prefix, same, less, field, valueFrom, aligned, wordOf, strOf}
 use Rattle.rules.specs.Names.{Name, any, all, keep, member, rising, isName, covered, below, insert, sorted, outgrown, union}
 use Rattle.rules.specs.Stamps.{Stamp, start, pairAmong, pair, lawful, update, append, fork, settle, settled, reduceBy, reduce, unite, join, compare}
-use Rattle.rules.specs.Stored.{wordsOf, stored, strsIn, held, sameNumbers, sameWords, sameRecord, isStored, unlawful, blank}
+use Rattle.rules.specs.Stored.{wordsOf, stored, strsIn, held, sameNumbers, sameWords, sameRecord, isStored, unlawful, blank, absent}
 use Rattle.rules.specs.Refusals.{first, long, many, touches, overlap, unknownTo, unseen}
 use Rattle.rules.specs.Values.{updated, forked, joined, compared}
 use Rattle.rules.specs.Packed.{stringBits, stringsBits, nameBits, stampBits, bytesOf, packBits, packed}
+use Rattle.rules.specs.Tables.{badSize, noSlot, lowest, full, freshTable, updateAt, forkAt, joinAt, compareAt, spareFrom, spareAt}
+use Rattle.rules.specs.Traces.{splitAt, dropEmptyLast, linesOf, slotOf, readLine, okText, refusedText, verdictText, lineText, lineTable, tracedFrom, readLines, traced}
 use Rattle.rules.specs.declared.Verdict.{Verdict}
 use Rattle.rules.specs.declared.Verdict.the-variants.{Equal, Obsolete, Conflict}
 use Rattle.rules.specs.declared.Refusal.the-variants.{Unlawful, Overlap, Unseen}
@@ -69,6 +71,14 @@ every (suc k) = map (λ s. o ∷ s) (every k) ++ map (λ s. i ∷ s) (every k)
 abbrev sixteen : Name
 sixteen = append false (every 4)
 
+-- the trace tool's example: F 0, F 0, U 1, U 2, J 1 0, C 1 2, S 2, J 1 1, J 1 2, C 1 1, U 0, one a line
+typed : List ℕ
+typed = 70 ∷ 32 ∷ 48 ∷ 10 ∷ 70 ∷ 32 ∷ 48 ∷ 10 ∷ 85 ∷ 32 ∷ 49 ∷ 10 ∷ 85 ∷ 32 ∷ 50 ∷ 10 ∷ 74 ∷ 32 ∷ 49 ∷ 32 ∷ 48 ∷ 10 ∷ 67 ∷ 32 ∷ 49 ∷ 32 ∷ 50 ∷ 10 ∷ 83 ∷ 32 ∷ 50 ∷ 10 ∷ 74 ∷ 32 ∷ 49 ∷ 32 ∷ 49 ∷ 10 ∷ 74 ∷ 32 ∷ 49 ∷ 32 ∷ 50 ∷ 10 ∷ 67 ∷ 32 ∷ 49 ∷ 32 ∷ 49 ∷ 10 ∷ 85 ∷ 32 ∷ 48 ∷ 10 ∷ []
+
+-- ok 1, ok 2, ok 1, ok 2, ok 1, conflict, kept, refused 4, ok 1, equal, refused 3, one a line
+printed : List ℕ
+printed = 111 ∷ 107 ∷ 32 ∷ 49 ∷ 10 ∷ 111 ∷ 107 ∷ 32 ∷ 50 ∷ 10 ∷ 111 ∷ 107 ∷ 32 ∷ 49 ∷ 10 ∷ 111 ∷ 107 ∷ 32 ∷ 50 ∷ 10 ∷ 111 ∷ 107 ∷ 32 ∷ 49 ∷ 10 ∷ 99 ∷ 111 ∷ 110 ∷ 102 ∷ 108 ∷ 105 ∷ 99 ∷ 116 ∷ 10 ∷ 107 ∷ 101 ∷ 112 ∷ 116 ∷ 10 ∷ 114 ∷ 101 ∷ 102 ∷ 117 ∷ 115 ∷ 101 ∷ 100 ∷ 32 ∷ 52 ∷ 10 ∷ 111 ∷ 107 ∷ 32 ∷ 49 ∷ 10 ∷ 101 ∷ 113 ∷ 117 ∷ 97 ∷ 108 ∷ 10 ∷ 114 ∷ 101 ∷ 102 ∷ 117 ∷ 115 ∷ 101 ∷ 100 ∷ 32 ∷ 51 ∷ 10 ∷ []
+
 -- what an example says: one of these is the other
 pub data Said : Type 0 where
   truth : Bool → Said
@@ -113,6 +123,8 @@ examples =
     ∷ (compares (compared narrow (r (s01 ∷ []) (s0 ∷ [])) (r (s1 ∷ []) (s1 ∷ []))), compares (NotCompared Unlawful))
     -- not "refusing a join by the number of strings before reduction": 17 before, 16 after
     ∷ (gives (joined narrow (r (e ∷ []) sixteen) (r (e ∷ []) ((o ∷ o ∷ o ∷ o ∷ i ∷ []) ∷ []))), gives (done (e ∷ []) ((o ∷ o ∷ o ∷ o ∷ []) ∷ drop 1 sixteen)))
+    -- the trace tool's example, byte for byte
+    ∷ (bytes (traced narrow typed), bytes printed)
     ∷ []
 
 abbrev pub Hold : List (Said × Said) → Type 0
@@ -121,5 +133,5 @@ Hold (c ∷ cs) = (c .0 ≡ c .1) × Hold cs
 
 -- each holds by computing both sides
 pub examples-hold : Hold examples
-unfolding examples every prefix same less field valueFrom aligned wordOf strOf any all keep member rising isName covered below insert sorted outgrown union pairAmong pair lawful update append fork settle settled reduceBy reduce unite join compare wordsOf stored strsIn held sameNumbers sameWords sameRecord isStored unlawful blank first long many touches overlap unknownTo unseen updated forked joined compared stringBits stringsBits nameBits stampBits bytesOf packBits packed
-examples-hold = (refl, (refl, (refl, (refl, (refl, (refl, (refl, (refl, (refl, (refl, (refl, (refl, (refl, (refl, (refl, (refl, (refl, (refl, (refl, tt)))))))))))))))))))
+unfolding examples typed printed every prefix same less field valueFrom aligned wordOf strOf any all keep member rising isName covered below insert sorted outgrown union pairAmong pair lawful update append fork settle settled reduceBy reduce unite join compare wordsOf stored strsIn held sameNumbers sameWords sameRecord isStored unlawful blank first long many touches overlap unknownTo unseen updated forked joined compared stringBits stringsBits nameBits stampBits bytesOf packBits packed absent badSize noSlot lowest full freshTable updateAt forkAt joinAt compareAt spareFrom spareAt splitAt dropEmptyLast linesOf slotOf readLine okText refusedText verdictText lineText lineTable tracedFrom readLines traced
+examples-hold = (refl, (refl, (refl, (refl, (refl, (refl, (refl, (refl, (refl, (refl, (refl, (refl, (refl, (refl, (refl, (refl, (refl, (refl, (refl, (refl, tt))))))))))))))))))))

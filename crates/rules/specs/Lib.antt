@@ -10,5 +10,6 @@ pub mod Packed
 pub mod Bundles
 pub mod Tables
 pub mod Histories
+pub mod Traces
 pub mod Promises
 pub mod Examples

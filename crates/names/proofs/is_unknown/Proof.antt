@@ -70,7 +70,7 @@ loop-again c =
     let g = l .before .before in
     let s = strOf (getD (g .args .t1 .words) (l .loop .k) 0) in
     let miss : unknown (g .args .i) (g .args .v) s ≡ false =
-    ⊎-elim
+    ⊎-elim {C = unknown (g .args .i) (g .args .v) s ≡ false}
     (λ w. ap₂ (λ (a b : Bool). a && not b) (sym (c .before .covers .ensures) ∙ w .0 .taken) (sym (w .1 .ensures)) ∙ w .2 .left)
     (λ w. ap (λ (a : Bool). a && not (covered s (strsIn (g .args .v)))) (sym (c .before .covers .ensures) ∙ w .left))
     (c .if1 .came) in (

@@ -35,7 +35,8 @@ returns c =
     let l = c .before .before .before in
     let g = l .before in
     let ws = g .args .t1 .words in
-    sym (all-stop (eqb 0) (from-cons ws (l .loop .i) (omega (arith, full g))) (ne-eqb 0 (getD ws (l .loop .i) 0) (λ e. c .if1 .taken (sym e)))) ∙ l .loop .inv .1
+    sym (all-stop (eqb 0) (from-cons ws (l .loop .i) (omega (arith, full g))) (ne-eqb 0 (getD ws (l .loop .i) 0) (λ e. c .if1 .taken (sym e))))
+    ∙ l .loop .inv .1
 
 add-i : tie.Need-add-i Inv-loop μ-loop
 add-i c = search needs

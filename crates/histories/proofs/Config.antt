@@ -1,0 +1,214 @@
+-- Configurations: what each slot holds, with no limits, and what every history keeps of it (Invariants 4.4 to 4.6 and Proposition 5.1
+-- of the paper). It survives forgetting slots, and a step that moves copies without changing what they know. Assumes nothing.
+use mathlib.Core.Path.{_≡_, refl, sym, ap, _∙_, subst}
+use mathlib.Core.Bool.{Bool, true, false, cond}
+use mathlib.Core.List.{List, [], _∷_, _++_}
+use mathlib.Core.Logic.{inl, inr, ⊎-elim}
+use Prim.Native.Nat.{ℕ, _≤_, _<_}
+use native.Mathlib.Omega.{arith}
+use lib.Dec.{eqb}
+use lib.ListN.{length}
+use borrow.Author.Tests.{eqb-true, eqb-false}
+use Rattle.rules.specs.Strings.{Str, prefix}
+use Rattle.rules.specs.Names.{all, rising, covered}
+use Rattle.rules.specs.Stamps.{Stamp, start}
+use Rattle.laws.proofs.Tests.{In, in-left, in-right, in-append}
+use Rattle.laws.proofs.Below.{covered-some, some-covered, in-covered, covered-down, below-refl}
+use Rattle.laws.proofs.Steps.{Proper}
+use Rattle.histories.specs.Configurations.{AllPresent, Among, Config, Covers, Seen, Sound, Under, Within, initial, restricted}
+
+-- slot x is slot a, or another
+pub data Where (a x : ℕ) : Type 0 where
+  here : x ≡ a → eqb x a ≡ true → Where a x
+  there : (x ≡ a → ⊥) → eqb x a ≡ false → Where a x
+
+pub is-where : (a x : ℕ) → Where a x
+is-where a x = by (eqb x a) refl
+  where
+    by : (b : Bool) → eqb x a ≡ b → Where a x
+    by true e = here (eqb-true x a e) e
+    by false e = there (eqb-false x a e) e
+
+-- and what passes one test there passes another
+pub among : {S : List ℕ} {P Q : ℕ → Type 0} → ((b : ℕ) → In b S → P b → Q b) → Among S P → Among S Q
+among f a = record { slot = a .slot; inside = a .inside; holds = f (a .slot) (a .inside) (a .holds) }
+
+-- ---- copies that moved: each slot of D holds what some slots of C held, taken together
+
+pub record Reads (C D : Config) (old : ℕ → List ℕ) : Type 0 where
+  pub slots : (x y : ℕ) → D .present x ≡ true → In y (old x) → C .present y ≡ true
+  pub one : (x : ℕ) → D .present x ≡ true → (y : ℕ) × In y (old x)
+  pub eventsBack : (x e : ℕ) → D .present x ≡ true → In e (D .events x) → Seen C (old x) e
+  pub eventsOn : (x y e : ℕ) → D .present x ≡ true → In y (old x) → In e (C .events y) → In e (D .events x)
+  pub updateBack : (x : ℕ) (r : Str) → D .present x ≡ true → In r (D .stamp x .update) → Among (old x) (λ y. In r (C .stamp y .update))
+  pub updateOn : (x y : ℕ) (r : Str) → D .present x ≡ true → In y (old x) → In r (C .stamp y .update) → covered r (D .stamp x .update) ≡ true
+  pub next : D .next ≡ C .next
+
+pub in-one : {A : Type 0} (x y : A) → In y (x ∷ []) → y ≡ x
+in-one x y i = ⊎-elim (λ e. e) (λ h. absurd h) i
+
+-- the lists of some slots, one after the other: of old slots, or of events
+unfoldable pub gather : (ℕ → List ℕ) → List ℕ → List ℕ
+gather old [] = []
+gather old (x ∷ S) = old x ++ gather old S
+
+pub in-gather : (old : ℕ → List ℕ) (S : List ℕ) (x y : ℕ) → In x S → In y (old x) → In y (gather old S)
+unfolding gather
+in-gather old [] x y i j = absurd i
+in-gather old (z ∷ S) x y i j =
+    ⊎-elim (λ e. in-left y (old z) (gather old S) (subst (λ (w : ℕ). In y (old w)) e j)) (λ h. in-right y (old z) (gather old S) (in-gather old S x y h j)) i
+
+pub gather-in : (old : ℕ → List ℕ) (S : List ℕ) (y : ℕ) → In y (gather old S) → Among S (λ x. In y (old x))
+unfolding gather
+gather-in old [] y i = absurd i
+gather-in old (z ∷ S) y i =
+    ⊎-elim (λ h. record { slot = z; inside = inl refl; holds = h })
+    (λ h. let a = gather-in old S y h in record { slot = a .slot; inside = inr (a .inside); holds = a .holds })
+    (in-append y (old z) (gather old S) i)
+
+first-of : (S : List ℕ) → 1 ≤ length S → (b : ℕ) × In b S
+first-of [] h = absurd (omega arith)
+first-of (b ∷ S) h = (b, inl refl)
+
+some-length : (S : List ℕ) (b : ℕ) → In b S → 1 ≤ length S
+some-length [] b i = absurd i
+some-length (x ∷ S) b i = omega arith
+
+module _ (C D : Config) (old : ℕ → List ℕ) (m : Reads C D old) (q : Sound C) where
+  -- what D's name covers, one of the old names covers
+  pub covered-back : (x : ℕ) (r : Str) → D .present x ≡ true → covered r (D .stamp x .update) ≡ true → Covers C (old x) r
+  covered-back x r p e =
+      let t = covered-some r (D .stamp x .update) e in
+      among (λ y i h. some-covered r (C .stamp y .update) (t .one) h (t .passes)) (m .updateBack x (t .one) p (t .inside))
+
+  pub covered-on : (x y : ℕ) (r : Str) → D .present x ≡ true → In y (old x) → covered r (C .stamp y .update) ≡ true → covered r (D .stamp x .update) ≡ true
+  covered-on x y r p i e =
+      let t = covered-some r (C .stamp y .update) e in
+      covered-down r (t .one) (D .stamp x .update) (t .passes) (m .updateOn x y (t .one) p i (t .inside))
+
+  module _ (S : List ℕ) (g : AllPresent D S) where
+    all-back : AllPresent C (gather old S)
+    all-back y i = let a = gather-in old S y i in m .slots (a .slot) y (g (a .slot) (a .inside)) (a .holds)
+
+    some-back : 1 ≤ length S → 1 ≤ length (gather old S)
+    some-back h =
+        let b = first-of S h in
+        let y = m .one (b .0) (g (b .0) (b .1)) in
+        some-length (gather old S) (y .0) (in-gather old S (b .0) (y .0) (b .1) (y .1))
+
+    seen-back : (e : ℕ) → Seen D S e → Seen C (gather old S) e
+    seen-back e a =
+        let b = m .eventsBack (a .slot) e (g (a .slot) (a .inside)) (a .holds) in
+        record { slot = b .slot; inside = in-gather old S (a .slot) (b .slot) (a .inside) (b .inside); holds = b .holds }
+
+    seen-on : (e : ℕ) → Seen C (gather old S) e → Seen D S e
+    seen-on e a =
+        let b = gather-in old S (a .slot) (a .inside) in
+        record { slot = b .slot; inside = b .inside; holds = m .eventsOn (b .slot) (a .slot) e (g (b .slot) (b .inside)) (b .holds) (a .holds) }
+
+    covers-back : (r : Str) → Covers D S r → Covers C (gather old S) r
+    covers-back r a =
+        let b = covered-back (a .slot) r (g (a .slot) (a .inside)) (a .holds) in
+        record { slot = b .slot; inside = in-gather old S (a .slot) (b .slot) (a .inside) (b .inside); holds = b .holds }
+
+    covers-on : (r : Str) → Covers C (gather old S) r → Covers D S r
+    covers-on r a =
+        let b = gather-in old S (a .slot) (a .inside) in
+        record { slot = b .slot; inside = b .inside; holds = covered-on (b .slot) (a .slot) r (g (b .slot) (b .inside)) (b .holds) (a .holds) }
+
+  pub reads-nonempty : (x : ℕ) → D .present x ≡ true → (s : Str) × In s (D .stamp x .update)
+  reads-nonempty x p =
+      let y = m .one x p in
+      let s = q .nonempty (y .0) (m .slots x (y .0) p (y .1)) in
+      let t = covered-some (s .0) (D .stamp x .update) (m .updateOn x (y .0) (s .0) p (y .1) (s .1)) in
+      (t .one, t .inside)
+
+  pub reads-fresh : (x e : ℕ) → D .present x ≡ true → In e (D .events x) → e < D .next
+  reads-fresh x e p i =
+      let a = m .eventsBack x e p i in
+      subst (λ (n : ℕ). e < n) (sym (m .next)) (q .fresh (a .slot) e (m .slots x (a .slot) p (a .inside)) (a .holds))
+
+  -- one more event that S has seen is one more of each old slot, and so with the strings
+  pub reads-known : (x : ℕ) (S : List ℕ) → D .present x ≡ true → AllPresent D S → 1 ≤ length S → Within D x S → Under D x S
+  reads-known x S p g h w r i =
+      let a = m .updateBack x r p i in
+      covers-on S g r
+      (q .known (a .slot) (gather old S) (m .slots x (a .slot) p (a .inside)) (all-back S g) (some-back S g h)
+      (λ e j. seen-back S g e (w e (m .eventsOn x (a .slot) e p (a .inside) j))) r (a .holds))
+
+  pub reads-shown : (x : ℕ) (S : List ℕ) → D .present x ≡ true → AllPresent D S → 1 ≤ length S → Under D x S → Within D x S
+  reads-shown x S p g h u e i =
+      let a = m .eventsBack x e p i in
+      seen-on S g e
+      (q .shown (a .slot) (gather old S) (m .slots x (a .slot) p (a .inside)) (all-back S g) (some-back S g h)
+      (λ r j. let t = covered-some r (D .stamp x .update) (m .updateOn x (a .slot) r p (a .inside) j) in
+      among (λ b k c. covered-down r (t .one) (C .stamp b .update) (t .passes) c) (covers-back S g (t .one) (u (t .one) (t .inside)))) e (a .holds))
+
+-- ---- each slot of D holds what one slot of C held
+
+pub record Moved (C D : Config) (old : ℕ → ℕ) : Type 0 where
+  pub slots : (x : ℕ) → D .present x ≡ true → C .present (old x) ≡ true
+  pub updates : (x : ℕ) → D .present x ≡ true → D .stamp x .update ≡ C .stamp (old x) .update
+  pub sets : (x : ℕ) → D .present x ≡ true → D .events x ≡ C .events (old x)
+  pub next : D .next ≡ C .next
+
+pub moved-reads : (C D : Config) (old : ℕ → ℕ) → Moved C D old → Reads C D (λ x. old x ∷ [])
+moved-reads C D old m = record {
+  slots = λ x y p i. rw (in-one (old x) y i) (m .slots x p);
+  one = λ x p. (old x, inl refl);
+  eventsBack = λ x e p i. record { slot = old x; inside = inl refl; holds = rw (m .sets x p) at i };
+  eventsOn = λ x y e p i j. rw (m .sets x p) (rw (in-one (old x) y i) at j);
+  updateBack = λ x r p i. record { slot = old x; inside = inl refl; holds = rw (m .updates x p) at i };
+  updateOn = λ x y r p i j. in-covered r (D .stamp x .update) (rw (m .updates x p) (rw (in-one (old x) y i) at j));
+  next = m .next;
+}
+
+-- ---- forgetting slots
+
+-- D has slots of C only, and there what C has
+pub record Part (C D : Config) : Type 0 where
+  pub slots : (x : ℕ) → D .present x ≡ true → C .present x ≡ true
+  pub stamps : (x : ℕ) → D .present x ≡ true → D .stamp x ≡ C .stamp x
+  pub sets : (x : ℕ) → D .present x ≡ true → D .events x ≡ C .events x
+  pub next : D .next ≡ C .next
+
+pub sound-part : (C D : Config) → Part C D → Sound C → Sound D
+sound-part C D m q = record {
+  proper = λ a p. rw (m .stamps a p) (q .proper a (m .slots a p));
+  nonempty = reads-nonempty C D (λ x. x ∷ []) reads q;
+  apart = λ a b s t p o i j. q .apart a b s t (m .slots a p) (m .slots b o) (rw (m .stamps a p) at i) (rw (m .stamps b o) at j);
+  seen = λ a b r p o i e.
+      rw (m .stamps b o) (q .seen a b r (m .slots a p) (m .slots b o) (rw (m .stamps a p) at i) (rw (m .stamps b o) at e));
+  fresh = reads-fresh C D (λ x. x ∷ []) reads q;
+  known = reads-known C D (λ x. x ∷ []) reads q;
+  shown = reads-shown C D (λ x. x ∷ []) reads q;
+}
+  where
+    reads : Reads C D (λ x. x ∷ [])
+    reads =
+        moved-reads C D (λ x. x)
+        (record { slots = m .slots; updates = λ x p. ap (λ (z : Stamp). z .update) (m .stamps x p); sets = m .sets; next = m .next })
+
+-- what absent slots hold makes no difference
+pub sound-same : (C D : Config) → ((x : ℕ) → D .present x ≡ C .present x) → ((x : ℕ) → C .present x ≡ true → D .stamp x ≡ C .stamp x)
+    → ((x : ℕ) → C .present x ≡ true → D .events x ≡ C .events x) → D .next ≡ C .next → Sound C → Sound D
+sound-same C D f g h n =
+    sound-part C D
+    (record { slots = λ x p. sym (f x) ∙ p; stamps = λ x p. g x (sym (f x) ∙ p); sets = λ x p. h x (sym (f x) ∙ p); next = n })
+
+pub sound-restrict : (C : Config) (p : ℕ → Bool) → ((x : ℕ) → p x ≡ true → C .present x ≡ true) → Sound C → Sound (restricted p C)
+sound-restrict C p f = sound-part C (restricted p C) (record { slots = f; stamps = λ x i. refl; sets = λ x i. refl; next = refl })
+
+-- ---- the first configuration
+
+pub sound-start : Sound initial
+unfolding rising all
+sound-start = record {
+  proper = λ a p. record { updateRising = refl; idRising = refl; belowId = below-refl ([] ∷ []) };
+  nonempty = λ a p. ([], inl refl);
+  apart = λ a b s t p o i j e. (eqb-true a 0 p ∙ sym (eqb-true b 0 o), in-one [] s i ∙ sym (in-one [] t j));
+  seen = λ a b r p o i e. e;
+  fresh = λ a e p i. absurd i;
+  known = λ x S p g h w r i. let b = first-of S h in record { slot = b .0; inside = b .1; holds = in-covered r ([] ∷ []) i };
+  shown = λ x S p g h u e i. absurd i;
+}

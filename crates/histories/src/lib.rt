@@ -1,0 +1,1 @@
+// No code: what every history of calls keeps stands in proofs/.

@@ -1,0 +1,259 @@
+/* The four calls once more, told over text: bits are the characters 0 and 1, a string is a C string, a name an
+ * unsorted heap of them. Nothing is shared with the library, neither code nor representation: order is strcmp,
+ * prefix is strncmp, and reduction goes by the closed form (a string is full when it is held, or both its
+ * children are full). Speed does not matter here. */
+#include "second.h"
+#include <stdlib.h>
+#include <string.h>
+
+enum { DIGITS = 24, STRINGS = 16, ROOM = 64, WIDTH = 32, REFUSED = 1000 };
+
+typedef struct {
+    int n;
+    char s[ROOM][WIDTH];
+} name;
+
+typedef struct {
+    name u, i;
+} stamp;
+
+static int below_string(const char *a, const char *b) { return strncmp(a, b, strlen(a)) == 0; }
+
+static int by_text(const void *a, const void *b) { return strcmp(a, b); }
+
+static int holds(const name *n, const char *s) {
+    for (int k = 0; k < n->n; k++)
+        if (strcmp(n->s[k], s) == 0) return 1;
+    return 0;
+}
+
+static void put(name *n, const char *s) {
+    if (!holds(n, s)) strcpy(n->s[n->n++], s);
+}
+
+static int covers(const name *n, const char *s) {
+    for (int k = 0; k < n->n; k++)
+        if (below_string(s, n->s[k])) return 1;
+    return 0;
+}
+
+static int is_below(const name *m, const name *n) {
+    for (int k = 0; k < m->n; k++)
+        if (!covers(n, m->s[k])) return 0;
+    return 1;
+}
+
+/* ---- reading */
+
+typedef struct {
+    const uint8_t *b;
+    size_t bits, at;
+} reader;
+
+/* The next w bits as text, or 0 where they are not there. */
+static int take(reader *r, int w, char *text) {
+    if (r->bits - r->at < (size_t)w) return 0;
+    for (int k = 0; k < w; k++, r->at++) text[k] = (r->b[r->at / 8] & (0x80 >> r->at % 8)) ? '1' : '0';
+    text[w] = 0;
+    return 1;
+}
+
+static int read_name(reader *r, name *n) {
+    char f[WIDTH];
+    if (!take(r, 4, f)) return 0;
+    int count = (int)strtol(f, NULL, 2) + 1;
+    n->n = 0;
+    for (int k = 0; k < count; k++) {
+        if (!take(r, 5, f)) return 0;
+        int len = (int)strtol(f, NULL, 2);
+        if (len > DIGITS || !take(r, len, f)) return 0;
+        if (k > 0) {
+            const char *last = n->s[k - 1];
+            if (below_string(last, f) || below_string(f, last) || strcmp(last, f) >= 0) return 0;
+        }
+        strcpy(n->s[n->n++], f);
+    }
+    return 1;
+}
+
+static int is_lawful(const stamp *x) {
+    if (!is_below(&x->u, &x->i)) return 0;
+    for (int k = 0; k < x->i.n; k++) {
+        char twin[WIDTH];
+        strcpy(twin, x->i.s[k]);
+        size_t len = strlen(twin);
+        if (len == 0) continue;
+        twin[len - 1] ^= 1;
+        if (holds(&x->i, twin)) return 0;
+    }
+    return 1;
+}
+
+static int read_stamp(const uint8_t *b, size_t len, stamp *x) {
+    reader r = {b, len * 8, 0};
+    if (!read_name(&r, &x->u) || !read_name(&r, &x->i)) return 1;
+    if (r.bits - r.at >= 8) return 1;
+    char f[WIDTH];
+    take(&r, (int)(r.bits - r.at), f);
+    if (strchr(f, '1')) return 1;
+    return is_lawful(x) ? 0 : 2;
+}
+
+/* ---- writing: the bits as text first */
+
+static void number_text(char *to, int v, int w) {
+    char f[WIDTH];
+    for (int k = 0; k < w; k++) f[k] = (v >> (w - 1 - k)) & 1 ? '1' : '0';
+    f[w] = 0;
+    strcat(to, f);
+}
+
+static void name_text(char *to, name n) {
+    qsort(n.s, (size_t)n.n, sizeof n.s[0], by_text);
+    number_text(to, n.n - 1, 4);
+    for (int k = 0; k < n.n; k++) {
+        number_text(to, (int)strlen(n.s[k]), 5);
+        strcat(to, n.s[k]);
+    }
+}
+
+static size_t pack(const stamp *x, uint8_t *to) {
+    char text[2 * ROOM * WIDTH] = "";
+    name_text(text, x->u);
+    name_text(text, x->i);
+    while (strlen(text) % 8) strcat(text, "0");
+    size_t n = strlen(text) / 8;
+    for (size_t k = 0; k < n; k++) {
+        char byte[9] = {0};
+        memcpy(byte, text + 8 * k, 8);
+        to[k] = (uint8_t)strtol(byte, NULL, 2);
+    }
+    return n;
+}
+
+/* ---- two stamps that meet */
+
+static int touches(const name *m, const name *n) {
+    for (int k = 0; k < m->n; k++)
+        if (covers(n, m->s[k])) return 1;
+    return 0;
+}
+
+static int unknown(const stamp *a, const stamp *b) {
+    for (int k = 0; k < a->u.n; k++)
+        if (covers(&b->i, a->u.s[k]) && !covers(&b->u, a->u.s[k])) return 1;
+    return 0;
+}
+
+static int read_two(const uint8_t *first, size_t first_len, const uint8_t *second, size_t second_len, stamp *a, stamp *b) {
+    int r = read_stamp(first, first_len, a);
+    if (r == 0) r = read_stamp(second, second_len, b);
+    if (r) return r;
+    if (touches(&a->i, &b->i) || touches(&b->i, &a->i)) return 8;
+    if (unknown(a, b) || unknown(b, a)) return 9;
+    return 0;
+}
+
+/* ---- join by the closed form */
+
+static void unite(const name *m, const name *n, name *to) {
+    name all = *m;
+    for (int k = 0; k < n->n; k++) put(&all, n->s[k]);
+    to->n = 0;
+    for (int k = 0; k < all.n; k++) {
+        int outgrown = 0;
+        for (int j = 0; j < all.n; j++)
+            if (j != k && below_string(all.s[k], all.s[j])) outgrown = 1;
+        if (!outgrown) put(to, all.s[k]);
+    }
+}
+
+static int full(const name *i, const char *s) {
+    if (holds(i, s)) return 1;
+    size_t len = strlen(s);
+    if (len >= DIGITS || !covers(i, s)) return 0;
+    char half[WIDTH];
+    strcpy(half, s);
+    half[len + 1] = 0;
+    half[len] = '0';
+    if (!full(i, half)) return 0;
+    half[len] = '1';
+    return full(i, half);
+}
+
+/* The shortest full prefix of s, or s itself where there is none. */
+static void lifted(const name *i, const char *s, char *to) {
+    for (size_t len = 0; len <= strlen(s); len++) {
+        memcpy(to, s, len);
+        to[len] = 0;
+        if (full(i, to)) return;
+    }
+    strcpy(to, s);
+}
+
+static void reduce(const stamp *x, stamp *to) {
+    char t[WIDTH];
+    to->u.n = to->i.n = 0;
+    for (int k = 0; k < x->u.n; k++) {
+        lifted(&x->i, x->u.s[k], t);
+        put(&to->u, t);
+    }
+    for (int k = 0; k < x->i.n; k++) {
+        lifted(&x->i, x->i.s[k], t);
+        put(&to->i, t);
+    }
+}
+
+static uint64_t give(const stamp *x, uint8_t *out, size_t out_len) {
+    uint8_t b[512];
+    size_t n = pack(x, b);
+    if (out_len < n) return REFUSED + 10;
+    memcpy(out, b, n);
+    return n;
+}
+
+uint64_t second_update(const uint8_t *s, size_t s_len, uint8_t *out, size_t out_len) {
+    stamp x;
+    int r = read_stamp(s, s_len, &x);
+    if (r) return REFUSED + (uint64_t)r;
+    x.u = x.i;
+    return give(&x, out, out_len);
+}
+
+uint64_t second_fork(const uint8_t *s, size_t s_len, uint8_t *zero, size_t zero_len, uint8_t *one, size_t one_len) {
+    stamp x;
+    int r = read_stamp(s, s_len, &x);
+    if (r) return REFUSED + (uint64_t)r;
+    for (int k = 0; k < x.i.n; k++)
+        if (strlen(x.i.s[k]) == DIGITS) return REFUSED + 6;
+    stamp y = x;
+    for (int k = 0; k < x.i.n; k++) {
+        strcat(x.i.s[k], "0");
+        strcat(y.i.s[k], "1");
+    }
+    uint8_t p[512], q[512];
+    size_t n = pack(&x, p), m = pack(&y, q);
+    if (zero_len < n || one_len < m) return REFUSED + 10;
+    memcpy(zero, p, n);
+    memcpy(one, q, m);
+    return n;
+}
+
+uint64_t second_join(const uint8_t *first, size_t first_len, const uint8_t *second, size_t second_len, uint8_t *out, size_t out_len) {
+    stamp a, b, x, y;
+    int r = read_two(first, first_len, second, second_len, &a, &b);
+    if (r) return REFUSED + (uint64_t)r;
+    unite(&a.u, &b.u, &x.u);
+    unite(&a.i, &b.i, &x.i);
+    reduce(&x, &y);
+    if (y.i.n > STRINGS) return REFUSED + 7;
+    return give(&y, out, out_len);
+}
+
+uint64_t second_compare(const uint8_t *first, size_t first_len, const uint8_t *second, size_t second_len) {
+    stamp a, b;
+    int r = read_two(first, first_len, second, second_len, &a, &b);
+    if (r) return REFUSED + (uint64_t)r;
+    int x = is_below(&a.u, &b.u), y = is_below(&b.u, &a.u);
+    return x ? (y ? 0 : 1) : (y ? 2 : 3);
+}
