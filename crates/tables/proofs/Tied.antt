@@ -4,7 +4,7 @@ use mathlib.Core.Bool.{Bool, true, false, cond, not, _&&_, _||_}
 use mathlib.Core.List.{List, [], _∷_}
 use Prim.Native.Nat.{ℕ, zero, suc, _+_, _≤_, _<_}
 use native.Mathlib.Omega.{arith}
-use borrow.Author.Tests.{eqb-true, eqb-false, leb-true, leb-false, ltb-false, not-false}
+use borrow.Author.Tests.{eqb-true, eqb-false, leb-true, leb-false, ltb-false}
 use lib.Dec.{eqb, leb, ltb}
 use lib.ListN.{length, getD, set}
 use lib.Seq.{set-getD}
@@ -30,8 +30,9 @@ use Rattle.tables.specs.declared.One.{One}
 use Rattle.tables.specs.declared.Two.{Two}
 use Rattle.tables.specs.declared.Scan.{Scan}
 use Rattle.tables.specs.Gates.{gateCode, zeros}
-use Rattle.tables.specs.Rules.{codeOf, answerCode, oneOf, twoOf, slotTests, updateRule, forkRule, joinRule, compareRule, forkCode, forkList}
+use Rattle.tables.specs.Rules.{codeOf, answerCode, oneOf, twoOf, slotTests, pairTests, meetTests, updateRule, forkRule, joinRule, compareRule, forkCode, forkList}
 use Rattle.tables.specs.Scans.{scanOf, seekStart, weighStart}
+use Rattle.tables.proofs.Forms.{lawful-then}
 use Rattle.tables.proofs.Passes.{Sought, sought, lowest-le, weighed, settled}
 
 -- ---- the gate
@@ -148,19 +149,6 @@ abbrev pub joinList : Table → ℕ → ℕ → Table
 joinList t a b =
     cond (eqb (gateCode (length t) a b) 0) (set (set t a (joinRule a b (at t a) (at t b) .first)) b (joinRule a b (at t a) (at t b) .second)) t
 
-abbrev joinTests : ℕ → ℕ → Record → Record → Answer
-joinTests a b s u =
-    first
-    ((absent narrow s, NoSlot)
-    ∷ (absent narrow u, NoSlot)
-    ∷ (eqb a b, OneSlot)
-    ∷ (unlawful narrow s, Unfit)
-    ∷ (unlawful narrow u, Unfit)
-    ∷ (overlap (held s) (held u), Overlap)
-    ∷ (unseen (held s) (held u), Unseen)
-    ∷ (many narrow (join (held s) (held u)), Many)
-    ∷ [])
-
 pub join-tied : (t : Table) (a b : ℕ) → (joinCode t a b ≡ slotNumber (joinAt narrow t a b .answer)) × (joinList t a b ≡ joinAt narrow t a b .table)
 unfolding joinAt joinRule first badSize noSlot
 join-tied t a b = by (gates (length t) a b)
@@ -174,7 +162,7 @@ join-tied t a b = by (gates (length t) a b)
     by (outA p q c) = (simp (c, p, q), simp (c, p, q))
     by (outB p q r c) = one (absent narrow (at t a)) refl p q r c
     by (past p q r c) =
-        let s = two-stepped (joinTests a b (at t a) (at t b)) t a a b (stored narrow (join (held (at t a)) (held (at t b)))) (blank narrow) in
+        let s = two-stepped (first (pairTests a b (at t a) (at t b) (meetTests (at t a) (at t b)))) t a a b (stored narrow (join (held (at t a)) (held (at t b)))) (blank narrow) in
         (simp (c, p, q, r) (s .0), simp (c, p, q, r) (s .1))
 
 -- ---- fork
@@ -234,10 +222,6 @@ fork-tied t a = by (badCount (length t)) refl
     by false p = found (full narrow t) refl (sought (zeros 0) 0 a t (omega (arith, few (length t) p)))
 
 -- ---- spare
-
-lawful-then : (r : Record) → unlawful narrow r ≡ false → isStored narrow r ≡ true
-unfolding unlawful
-lawful-then r e = not-false (isStored narrow r) e
 
 abbrev pub spareCode : Table → ℕ → ℕ
 spareCode t a = cond (eqb (gateCode (length t) a a) 0) (scanOf (weighStart a (at t a)) t .code) (gateCode (length t) a a)

@@ -54,25 +54,19 @@ forkRule b found s u =
     (stored narrow (fork false (held s)))
     (stored narrow (fork true (held s)))
 
+-- what is asked of two slots' records before they are joined
+abbrev pub pairTests : ℕ → ℕ → Record → Record → List (Bool × Refusal) → List (Bool × Refusal)
+pairTests a b s u more =
+    (absent narrow s, NoSlot) ∷ (absent narrow u, NoSlot) ∷ (eqb a b, OneSlot) ∷ (unlawful narrow s, Unfit) ∷ (unlawful narrow u, Unfit) ∷ more
+
+-- and what of the stamps that they hold
+abbrev pub meetTests : Record → Record → List (Bool × Refusal)
+meetTests s u =
+    (overlap (held s) (held u), Overlap) ∷ (unseen (held s) (held u), Unseen) ∷ (many narrow (join (held s) (held u)), Many) ∷ []
+
 unfoldable pub joinRule : ℕ → ℕ → Record → Record → Two
 joinRule a b s u =
-    let j : Stamp = join (held s) (held u) in
-    twoOf
-    (first
-    ((absent narrow s, NoSlot)
-    ∷ (absent narrow u, NoSlot)
-    ∷ (eqb a b, OneSlot)
-    ∷ (unlawful narrow s, Unfit)
-    ∷ (unlawful narrow u, Unfit)
-    ∷ (overlap (held s) (held u), Overlap)
-    ∷ (unseen (held s) (held u), Unseen)
-    ∷ (many narrow j, Many)
-    ∷ []))
-    a
-    s
-    u
-    (stored narrow j)
-    (blank narrow)
+    twoOf (first (pairTests a b s u (meetTests s u))) a s u (stored narrow (join (held s) (held u))) (blank narrow)
 
 -- a slot is equal to itself
 unfoldable pub compareRule : ℕ → ℕ → Record → Record → ℕ

@@ -12,7 +12,7 @@ ghost use Rattle.rules.specs.Stored.{sameWords, wordsOf, absent, isStored};
 ghost use Rattle.rules.specs.Values.{updated, forked, compared, joined};
 ghost use Rattle.rules.specs.Tables.{slotNumber, sparedNumber, makeFresh, updateAt, forkAt, joinAt, compareAt, spareAt};
 ghost use Rattle.tables.specs.Gates.{gateCode, roomOf, roomCode, freshSlot, zeros};
-ghost use Rattle.tables.specs.Rules.{codeOf, answerCode, twoOf, slotTests, updateRule, forkRule, joinRule, compareRule, forkCode, forkList};
+ghost use Rattle.tables.specs.Rules.{codeOf, answerCode, twoOf, slotTests, pairTests, updateRule, forkRule, joinRule, compareRule, forkCode, forkList};
 ghost use Rattle.tables.specs.Scans.{nextOf, obsoleteNumber, spareCode, meetCode, seekOf, weighOf, lookOf, scanOf, seekStart, weighStart};
 use rules::Answer;
 use rules::Compared;
@@ -439,6 +439,47 @@ fn fork_rule(b: usize, found: u64, s: Record, u: Record) -> Two
     settle_two(answer, b, s, u, x, y)
 }
 
+// The rule of join: s and u are the records of slots a and b, of which b's becomes absent.
+fn join_rule(a: usize, b: usize, s: Record, u: Record) -> Two
+    ensures { λ d. ⌜ d ≡ joinRule a b s u ⌝ }
+{
+    let code = pair_code(a, b, s, u);
+    if code != 0 {
+        return Two {
+            code: code,
+            first: s,
+            second: u,
+        };
+    }
+    let g = joins::join(s, u);
+    let answer = g.answer;
+    let x = g.stamp;
+    let none = empties(0);
+    settle_two(answer, a, s, u, x, none)
+}
+
+// What is asked of two slots' records before they are joined: 0, or the refusal.
+fn pair_code(a: usize, b: usize, s: Record, u: Record) -> u64
+    ensures { λ n. ⌜ n ≡ answerCode (first (pairTests a b s u [])) 0 ⌝ }
+{
+    if is_absent(s) {
+        return 1003;
+    }
+    if is_absent(u) {
+        return 1003;
+    }
+    if a == b {
+        return 1004;
+    }
+    if !stamps::is_lawful(s) {
+        return 1012;
+    }
+    if !stamps::is_lawful(u) {
+        return 1012;
+    }
+    0
+}
+
 // The rule of compare: a slot is equal to itself.
 fn compare_rule(a: usize, b: usize, s: Record, u: Record) -> u64
     ensures { λ n. ⌜ n ≡ compareRule a b s u ⌝ }
@@ -481,6 +522,20 @@ pub fn compare(t: &[Record], a: usize, b: usize) -> u64
     let g = gate(t.len(), a, b);
     if g == 0 {
         return compare_rule(a, b, t[a], t[b]);
+    }
+    g
+}
+
+// The copies of a and b become one, in slot a.
+pub fn join(t: &mut [Record], a: usize, b: usize) -> u64
+    ensures { λ r. ⌜ (r ≡ slotNumber (joinAt narrow (now (t .entry)) a b .answer)) × (now (t .exit) ≡ joinAt narrow (now (t .entry)) a b .table) ⌝ }
+{
+    let g = gate(t.len(), a, b);
+    if g == 0 {
+        let d = join_rule(a, b, t[a], t[b]);
+        t[a] = d.first;
+        t[b] = d.second;
+        return d.code;
     }
     g
 }

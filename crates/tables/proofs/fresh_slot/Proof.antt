@@ -4,15 +4,12 @@ use borrow.Author.Tests.{eq-eqb, ne-eqb}
 use mathlib.Core.Path.{_≡_, refl, _∙_}
 use Rattle.rules.specs.Limits.{narrow}
 use Rattle.rules.specs.Stamps.{start}
-use Rattle.rules.specs.Stored.{stored, blank, wordsOf}
+use Rattle.rules.specs.Stored.{stored, wordsOf}
 use Rattle.rules.specs.Strings.{wordOf, aligned, valueFrom}
 use Rattle.tables.specs.Gates.{freshSlot, zeros}
+use Rattle.tables.proofs.Forms.{none-is}
 use Rattle.tables.proofs.fresh_slot.Statement.{statement}
 use Rattle.tables.proofs.fresh_slot.Tie as tie
-
-none-is : zeros 0 ≡ blank narrow
-unfolding blank stored wordsOf
-none-is = refl
 
 start-is : zeros 1 ≡ stored narrow start
 unfolding stored wordsOf wordOf aligned valueFrom
