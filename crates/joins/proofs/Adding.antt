@@ -141,9 +141,9 @@ adding-is-union m n h =
           prefix-antisym x t p (subst (λ (y : Str). prefix t y ≡ true) (sym e) (o .passes));
     })
     (λ x i.
-      let t = union-top m n x i in
-      let o = over-all m n x (t .inside) in
-      subst (λ (y : Str). In y (addAll m n)) (sym (t .alone (o .one) (all-in m n (o .one) (o .inside)) (o .passes))) (o .inside))
+    let t = union-top m n x i in
+    let o = over-all m n x (t .inside) in
+    subst (λ (y : Str). In y (addAll m n)) (sym (t .alone (o .one) (all-in m n (o .one) (o .inside)) (o .passes))) (o .inside))
   where
     r : rising (addAll m n) ≡ true
     r = all-rising m n h

@@ -87,6 +87,7 @@ found-twins (s ∷ t ∷ n) h k =
         ap (λ (x : Str). wordOf x - 1) (w .left)
         ∙ word-root (w .root) (omega (arith, grown-length (w .root) false, ap length (w .left), k s (inl refl)))
         ∙ ap wordOf (sym (ap dropLast (w .left) ∙ drop-grown (w .root) false))
+
     by : (b : Bool) → siblings s t ≡ b → foundW (map wordOf (t ∷ n)) ≡ foundOf (firstTwins (t ∷ n))
         → cond b (At (wordOf s - 1)) (foundW (map wordOf (t ∷ n))) ≡ foundOf (cond (siblings s t) (some (dropLast s)) (firstTwins (t ∷ n)))
     by true e ih = ap At (root e) ∙ simp e

@@ -47,8 +47,7 @@ module _ (r : Record) (h : isStored narrow r ≡ true) where
   stored-names =
       let e = stored-is narrow r h in
       let same : (w : Words) → w ≡ wordsOf narrow (strsIn w) → sameWords w (wordsOf narrow (strsIn w)) ≡ true =
-      λ w p. subst (λ (v : Words). sameWords w v ≡ true) p (words-refl w) in
-      (
+      λ w p. subst (λ (v : Words). sameWords w v ≡ true) p (words-refl w) in (
         and-both (parts-name narrow (strsIn (r .update)) (lawful-named .updateNamed)) (same (r .update) (ap (λ (x : Record). x .update) e)),
         and-both (parts-name narrow (strsIn (r .id)) (lawful-named .idNamed)) (same (r .id) (ap (λ (x : Record). x .id) e)),
       )

@@ -113,8 +113,7 @@ pass-room a s p [] = omega (arith, opt-length (a && not p) s)
 pass-room a s p (t ∷ l) =
     let d : Turn = turnOf a s t p in
     let more = opt (d .keep) t ++ passBy (turnOf a s) a s (d .placed) l in
-    omega
-    (
+    omega (
       arith,
       length-append (opt (d .first) s) more,
       length-append (opt (d .keep) t) (passBy (turnOf a s) a s (d .placed) l),

@@ -109,12 +109,15 @@ module _ (s : Str) where
           let q = b x (inr (j .0)) (not-is (j .1)) in
           let l = rising-head t n h x (j .0) in
           ⊎-elim (λ z. less-over s x false (rw z at l) q) (λ z. less-over s x true (rw z at l) q) (grown-is t e)
+
       tail-held : Other s t → Held s n
       tail-held o = ⊎-elim (λ i. ⊎-elim (λ e. absurd (o .0 (sym e))) (λ j. inl j) i) (λ i. ⊎-elim (λ e. absurd (o .1 (sym e))) (λ j. inr j) i) k
+
       before-s : isGrown s t ≡ false → Held s n → less t s ≡ true
       before-s e k =
           let on : (d : Bool) → In (s ▹ d) n → less t s ≡ true = λ d i. less-under s t d (rising-head t n h (s ▹ d) i) (b t (inl refl) e) in
           ⊎-elim (on false) (on true) k
+
       by : Turning s t n → (Held s n → settleFrom s false n ≡ insert s (keep (isOther s) n)) → settleFrom s false (t ∷ n) ≡ insert s (keep (isOther s) (t ∷ n))
       by (grown e f g) ih = f ∙ sym (ap (insert s) g ∙ insert-first s (keep (isOther s) n) (behind e))
       by (other e f g) ih =
@@ -141,6 +144,7 @@ module _ (s : Str) where
           let apart : (d : Bool) → In (s ▹ d) n → ⊥ = λ d j.
           clash (prefix-refl s) (subst (λ (x : Str). prefix x s ≡ false) (sym (rising-antichain n h s (s ▹ d) (rw q i) j (prefix-grown s d))) (grown-not-prefix s d)) in
           ⊎-elim (apart false) (apart true) k)
+
       by : Way s n → passS false s n ≡ settle s n
       by (holds k e) = placed n h (beside k) k ∙ sym e
       by (lacks k e) = unplaced n k ∙ sym e

@@ -35,12 +35,12 @@ grown-test : (s t : Str) → (prefix s t && eqb (length t) (length s + 1)) ≡ i
 grown-test s t =
     iff
     (λ h.
-      let p = and-left (prefix s t) (eqb (length t) (length s + 1)) h in
-      let e = eqb-true (length t) (length s + 1) (and-right (prefix s t) (eqb (length t) (length s + 1)) h) in
-      ⊎-elim (λ k. absurd (omega (arith, ap length k)))
-      (λ k. ⊎-elim (λ z. or-left (same (s ▹ true) t) (is-same (prefix-whole (s ▹ false) t z (omega (arith, grown-length s false)))))
-      (λ z. or-right (same (s ▹ false) t) (is-same (prefix-whole (s ▹ true) t z (omega (arith, grown-length s true))))) k)
-      (prefix-goes-on s t p))
+    let p = and-left (prefix s t) (eqb (length t) (length s + 1)) h in
+    let e = eqb-true (length t) (length s + 1) (and-right (prefix s t) (eqb (length t) (length s + 1)) h) in
+    ⊎-elim (λ k. absurd (omega (arith, ap length k)))
+    (λ k. ⊎-elim (λ z. or-left (same (s ▹ true) t) (is-same (prefix-whole (s ▹ false) t z (omega (arith, grown-length s false)))))
+    (λ z. or-right (same (s ▹ false) t) (is-same (prefix-whole (s ▹ true) t z (omega (arith, grown-length s true))))) k)
+    (prefix-goes-on s t p))
     (λ h. ⊎-elim (λ k. back false k) (λ k. back true k) (or-cases (same (s ▹ false) t) (same (s ▹ true) t) h))
   where
     back : (d : Bool) → same (s ▹ d) t ≡ true → (prefix s t && eqb (length t) (length s + 1)) ≡ true

@@ -16,8 +16,12 @@ ghost use Rattle.rules.specs.declared.Refusal.the-variants.{Many};
 ghost use Rattle.rules.specs.declared.Answer.the-variants.{Refused};
 ghost use Rattle.joins.specs.Passes.{opt, turnOf, addedTurn, settledTurn, passW, front, wide};
 ghost use Rattle.joins.specs.Working.{foundW, stepped, words, wideOf, bothOf, stampIn, Ready};
-use rules::{Answer, Given, Record, Refusal, Words};
 use names::STRINGS;
+use rules::Answer;
+use rules::Given;
+use rules::Record;
+use rules::Refusal;
+use rules::Words;
 use stamps::meet;
 use strings::are_siblings;
 use strings::is_prefix;
@@ -64,18 +68,38 @@ fn added(s: u64, t: u64, placed: bool) -> Turn
     ensures { λ r. ⌜ r ≡ addedTurn s t placed ⌝ }
 {
     if placed {
-        return Turn { first: false, keep: true, placed: true };
+        return Turn {
+            first: false,
+            keep: true,
+            placed: true,
+        };
     }
     if is_prefix(s, t) {
-        return Turn { first: false, keep: true, placed: true };
+        return Turn {
+            first: false,
+            keep: true,
+            placed: true,
+        };
     }
     if is_prefix(t, s) {
-        return Turn { first: false, keep: false, placed: false };
+        return Turn {
+            first: false,
+            keep: false,
+            placed: false,
+        };
     }
     if s < t {
-        return Turn { first: true, keep: true, placed: true };
+        return Turn {
+            first: true,
+            keep: true,
+            placed: true,
+        };
     }
-    Turn { first: false, keep: true, placed: false }
+    Turn {
+        first: false,
+        keep: true,
+        placed: false,
+    }
 }
 
 // At t, when s is put in the place of s0 and s1: it is written once.
@@ -84,10 +108,18 @@ fn settled(s: u64, t: u64, placed: bool) -> Turn
 {
     if is_prefix(s, t) {
         if t % 64 == s % 64 + 1 {
-            return Turn { first: !placed, keep: false, placed: true };
+            return Turn {
+                first: !placed,
+                keep: false,
+                placed: true,
+            };
         }
     }
-    Turn { first: false, keep: true, placed: placed }
+    Turn {
+        first: false,
+        keep: true,
+        placed: placed,
+    }
 }
 
 // At t, in either pass.
@@ -196,9 +228,17 @@ fn step(x: Both) -> Both
         Found::At(s) => {
             let v = pass(u, s, false);
             let j = pass(i, s, false);
-            Both { more: true, update: v, id: j }
+            Both {
+                more: true,
+                update: v,
+                id: j,
+            }
         }
-        Found::Nothing => Both { more: false, update: u, id: i },
+        Found::Nothing => Both {
+            more: false,
+            update: u,
+            id: i,
+        },
     }
 }
 
@@ -207,7 +247,11 @@ fn reduce(u: Wide, i: Wide) -> Both
     requires { ⌜ Ready u i ⌝ }
     ensures { λ r. ⌜ r ≡ bothOf false (reduce (stampIn u i)) ⌝ }
 {
-    let mut x = Both { more: true, update: u, id: i };
+    let mut x = Both {
+        more: true,
+        update: u,
+        id: i,
+    };
     while x.more {
         x = step(x);
     }
@@ -237,7 +281,10 @@ fn refused(r: Refusal) -> Given
     let w = [0; 16];
     let n = Words { count: 0, words: w };
     let z = Record { update: n, id: n };
-    Given { answer: Answer::Refused(r), stamp: z }
+    Given {
+        answer: Answer::Refused(r),
+        stamp: z,
+    }
 }
 
 // The join of two lawful stamps, where the reduced id has no more strings than a name has.
@@ -259,6 +306,12 @@ fn merged(a: Record, b: Record) -> Given
     }
     let update = narrowed(v);
     let id = narrowed(j);
-    let stamp = Record { update: update, id: id };
-    Given { answer: Answer::Done, stamp: stamp }
+    let stamp = Record {
+        update: update,
+        id: id,
+    };
+    Given {
+        answer: Answer::Done,
+        stamp: stamp,
+    }
 }

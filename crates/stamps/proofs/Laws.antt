@@ -177,10 +177,10 @@ module _ (L : Limits) (room : L .digits ≤ 58) (n : Words) (h : isStoredName L 
       let m′ = append (eqb d 1) m in
       let count : r .count ≡ length m′ = p ∙ stored-count L n h ∙ sym (append-length (eqb d 1) m) in
       let words : r .words ≡ map wordOf m′ ++ replicate (L .strings - length m′) 0 =
-        q
-        ∙ ap (λ (x : ℕ). firsts (longer x) (n .count) (n .words)) (sym (digit-eqb d k))
-        ∙ ap₂ (firsts (longer (digit (eqb d 1)))) (stored-count L n h ∙ sym (length-map m wordOf)) (words-are L n h)
-        ∙ firsts-all (longer (digit (eqb d 1))) (map wordOf m) (zeros L n h)
-        ∙ ap₂ (λ (l z : List ℕ). l ++ z) (longer-words (eqb d 1) m (λ s i. omega (arith, shorter s i)))
-        (ap (λ (j : ℕ). replicate {A = ℕ} (L .strings - j) 0) (sym (append-length (eqb d 1) m))) in
+      q
+      ∙ ap (λ (x : ℕ). firsts (longer x) (n .count) (n .words)) (sym (digit-eqb d k))
+      ∙ ap₂ (firsts (longer (digit (eqb d 1)))) (stored-count L n h ∙ sym (length-map m wordOf)) (words-are L n h)
+      ∙ firsts-all (longer (digit (eqb d 1))) (map wordOf m) (zeros L n h)
+      ∙ ap₂ (λ (l z : List ℕ). l ++ z) (longer-words (eqb d 1) m (λ s i. omega (arith, shorter s i)))
+      (ap (λ (j : ℕ). replicate {A = ℕ} (L .strings - j) 0) (sym (append-length (eqb d 1) m))) in
       λ i. record { count = count i; words = words i }

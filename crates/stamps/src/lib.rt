@@ -24,8 +24,8 @@ use rules::Record;
 use rules::Refusal;
 use rules::Verdict;
 use rules::Words;
-use strings::are_siblings;
 use strings::DIGITS;
+use strings::are_siblings;
 
 // Whether the record is the stored shape of a lawful stamp.
 pub fn is_lawful(r: Record) -> bool

@@ -44,5 +44,6 @@ module _ {M : Type 1} (𝓤 : URA M) (H : Heap 𝓤) (A : Atoms 𝓤) (at-mem : 
   -- what a call is given is plain: it is made from nothing
   pub goes-gate : Given 𝓤 H A → (n a b : ℕ) → n < 2 ^ 64 → a < 2 ^ 64 → b < 2 ^ 64 → ent 𝓤 (emp 𝓤) (Gate .pre (toGate n a b))
   goes-gate W n a b hn ha hb =
-      qed W [] ∵ nothing ! $ owned ! usize (Is usize) (uint-makes 𝓤 H A W w64) b _ (refl, hb) $ fjoin ! $ owned ! usize (Is usize) (uint-makes 𝓤 H A W w64) a _ (refl, ha) $ fjoin ! $
+      qed W [] ∵ nothing ! $ owned ! usize (Is usize) (uint-makes 𝓤 H A W w64) b _ (refl, hb) $ fjoin ! $
+      owned ! usize (Is usize) (uint-makes 𝓤 H A W w64) a _ (refl, ha) $ fjoin ! $
       owned ! usize (Is usize) (uint-makes 𝓤 H A W w64) n _ (refl, hn) $ fjoin ! $ nothing ! $ join ! $ frame ! $ done !

@@ -47,7 +47,8 @@ fresh-at : (n j : ℕ) → j < n → getD (freshTable narrow n) j outside ≡ fr
 unfolding freshTable freshSlot
 fresh-at n j h = by (eqb j 0) refl
   where
-    by : (b : Bool) → eqb j 0 ≡ b → getD (set (replicate n (blank narrow)) 0 (stored narrow start)) j outside ≡ cond (eqb j 0) (stored narrow start) (blank narrow)
+    by : (b : Bool) → eqb j 0 ≡ b → getD (set (replicate n (blank narrow)) 0 (stored narrow start)) j outside ≡ cond (eqb j 0) (stored narrow start)
+        (blank narrow)
     by true e =
         let s : j ≡ 0 = eqb-true j 0 e in
         rw s (getD-set-same (replicate n (blank narrow)) 0 (stored narrow start) outside (omega (arith, length-replicate n (blank narrow))))

@@ -85,7 +85,8 @@ sought-hit r t k a u e p q = record { slot = rw (full-hit r t e, low-hit r t e) 
 sought-miss : (r : Record) (t : Table) (k a : ℕ) (u : Scan) → absent narrow r ≡ false → Sought t (k + 1) a u → Sought (r ∷ t) k a u
 sought-miss r t k a u e s =
     record {
-      slot = rw (full-miss r t e, low-miss r t e) (s .slot ∙ ap (cond (full narrow t) a) (let z : k + 1 + lowest narrow t ≡ k + suc (lowest narrow t) = omega arith in z));
+      slot = rw (full-miss r t e, low-miss r t e) (s .slot
+          ∙ ap (cond (full narrow t) a) (let z : k + 1 + lowest narrow t ≡ k + suc (lowest narrow t) = omega arith in z));
       found = rw (full-miss r t e) (s .found);
     }
 
@@ -137,7 +138,8 @@ meet-answer m r e = by (isStored narrow r) refl
   where
     by : (b : Bool) → isStored narrow r ≡ b → meetCode m r ≡ pairCode (meets m r) (compare (held m) (held r))
     by true d =
-        simp d (ap spareCode (compare-form m r e d) ∙ spare-told (first ((overlap (held m) (held r), Overlap) ∷ (unseen (held m) (held r), Unseen) ∷ [])) (compare (held m) (held r)))
+        simp d (ap spareCode (compare-form m r e d) ∙ spare-told (first ((overlap (held m) (held r), Overlap) ∷ (unseen (held m) (held r), Unseen) ∷ []))
+        (compare (held m) (held r)))
     by false d = simp d
 
 goes-on : (m : Record) (k a : ℕ) (t : Table) (x : Spared) (b : Answer) (v : Verdict) → scanOf (weighing m k a 0) t .code ≡ sparedNumber x

@@ -30,7 +30,8 @@ use Rattle.tables.specs.declared.One.{One}
 use Rattle.tables.specs.declared.Two.{Two}
 use Rattle.tables.specs.declared.Scan.{Scan}
 use Rattle.tables.specs.Gates.{gateCode, zeros}
-use Rattle.tables.specs.Rules.{codeOf, answerCode, oneOf, twoOf, slotTests, pairTests, meetTests, updateRule, forkRule, joinRule, compareRule, forkCode, forkList}
+use Rattle.tables.specs.Rules.{codeOf, answerCode, oneOf, twoOf, slotTests, pairTests, meetTests, updateRule, forkRule, joinRule, compareRule}
+use Rattle.tables.specs.Rules.{forkCode, forkList}
 use Rattle.tables.specs.Scans.{scanOf, seekStart, weighStart}
 use Rattle.tables.proofs.Forms.{lawful-then}
 use Rattle.tables.proofs.Passes.{Sought, sought, lowest-le, weighed, settled}
@@ -130,10 +131,12 @@ pub compare-tied : (t : Table) (a b : ℕ) → compareCode t a b ≡ comparedNum
 unfolding compareAt compareRule first badSize noSlot
 compare-tied t a b = by (gates (length t) a b)
   where
-    one : (z : Bool) → absent narrow (at t a) ≡ z → badCount (length t) ≡ false → leb (length t) a ≡ false → leb (length t) b ≡ true → gateCode (length t) a b ≡ 1003
+    one : (z : Bool) → absent narrow (at t a) ≡ z → badCount (length t) ≡ false → leb (length t) a ≡ false → leb (length t) b ≡ true
+        → gateCode (length t) a b ≡ 1003
         → compareCode t a b ≡ comparedNumber (compareAt narrow t a b)
     one true z p q r c = simp (c, p, q, z)
     one false z p q r c = simp (c, p, q, r, z)
+
     by : Gate (length t) a b → compareCode t a b ≡ comparedNumber (compareAt narrow t a b)
     by (size p c) = simp (c, p)
     by (outA p q c) = simp (c, p, q)
@@ -153,16 +156,19 @@ pub join-tied : (t : Table) (a b : ℕ) → (joinCode t a b ≡ slotNumber (join
 unfolding joinAt joinRule first badSize noSlot
 join-tied t a b = by (gates (length t) a b)
   where
-    one : (z : Bool) → absent narrow (at t a) ≡ z → badCount (length t) ≡ false → leb (length t) a ≡ false → leb (length t) b ≡ true → gateCode (length t) a b ≡ 1003
+    one : (z : Bool) → absent narrow (at t a) ≡ z → badCount (length t) ≡ false → leb (length t) a ≡ false → leb (length t) b ≡ true
+        → gateCode (length t) a b ≡ 1003
         → (joinCode t a b ≡ slotNumber (joinAt narrow t a b .answer)) × (joinList t a b ≡ joinAt narrow t a b .table)
     one true z p q r c = (simp (c, p, q, z), simp (c, p, q, z))
     one false z p q r c = (simp (c, p, q, r, z), simp (c, p, q, r, z))
+
     by : Gate (length t) a b → (joinCode t a b ≡ slotNumber (joinAt narrow t a b .answer)) × (joinList t a b ≡ joinAt narrow t a b .table)
     by (size p c) = (simp (c, p), simp (c, p))
     by (outA p q c) = (simp (c, p, q), simp (c, p, q))
     by (outB p q r c) = one (absent narrow (at t a)) refl p q r c
     by (past p q r c) =
-        let s = two-stepped (first (pairTests a b (at t a) (at t b) (meetTests (at t a) (at t b)))) t a a b (stored narrow (join (held (at t a)) (held (at t b)))) (blank narrow) in
+        let s = two-stepped (first (pairTests a b (at t a) (at t b) (meetTests (at t a) (at t b)))) t a a b
+        (stored narrow (join (held (at t a)) (held (at t b)))) (blank narrow) in
         (simp (c, p, q, r) (s .0), simp (c, p, q, r) (s .1))
 
 -- ---- fork
@@ -180,6 +186,7 @@ fork-full t a f = by (gates (length t) a a) (absent narrow (at t a)) (unlawful n
   where
     back : set (set t a (at t a)) a (at t a) ≡ t
     back = rw (set-getD t a outside) (set-getD t a outside)
+
     by : Gate (length t) a a → (x y : Bool) → absent narrow (at t a) ≡ x → unlawful narrow (at t a) ≡ y → Forks t a a 0
     by (size p c) x y hx hy = (simp (c, p), simp (c, p))
     by (outA p q c) x y hx hy = (simp (c, p, q), simp (c, p, q))
@@ -201,7 +208,8 @@ fork-lowest t a f = by (gates (length t) a (lowest narrow t))
     by (outA p q c) = (simp (c, p, q), simp (c, p, q))
     by (outB p q r c) = absurd (omega (arith, leb-true (length t) (lowest narrow t) r, low-lt t f))
     by (past p q r c) =
-        let s = two-stepped (first (slotTests (at t a) ((long narrow (held (at t a)), Long) ∷ []))) t (lowest narrow t) a (lowest narrow t) (stored narrow (fork false (held (at t a)))) (stored narrow (fork true (held (at t a)))) in
+        let s = two-stepped (first (slotTests (at t a) ((long narrow (held (at t a)), Long) ∷ []))) t (lowest narrow t) a (lowest narrow t)
+        (stored narrow (fork false (held (at t a)))) (stored narrow (fork true (held (at t a)))) in
         (simp (c, p, q, f) (s .0), simp (c, p, q, f) (s .1))
 
 fork-size : (t : Table) (a b found : ℕ) → badCount (length t) ≡ true → Forks t a b found
@@ -217,6 +225,7 @@ fork-tied t a = by (badCount (length t)) refl
     found false f w =
         let e : 0 + lowest narrow t ≡ lowest narrow t = omega arith in
         subst₂ (λ (b k : ℕ). Forks t a b k) (sym (simp (f, e) at (w .slot))) (sym (simp f at (w .found))) (fork-lowest t a f)
+
     by : (p : Bool) → badCount (length t) ≡ p → Forks t a (sought-in t a .at) (sought-in t a .code)
     by true p = fork-size t a (sought-in t a .at) (sought-in t a .code) p
     by false p = found (full narrow t) refl (sought (zeros 0) 0 a t (omega (arith, few (length t) p)))
@@ -232,6 +241,7 @@ spare-tied t a = by (gates (length t) a a) (absent narrow (at t a)) (unlawful na
   where
     ends : (n : ℕ) → (n ≡ 0 → ⊥) → scanOf (record { kind = 1; mine = at t a; next = 0; at = a; code = n }) t .code ≡ n
     ends n h = ap (λ (s : Scan). s .code) (settled (record { kind = 1; mine = at t a; next = 0; at = a; code = n }) t h)
+
     by : Gate (length t) a a → (x y : Bool) → absent narrow (at t a) ≡ x → unlawful narrow (at t a) ≡ y → spareCode t a ≡ sparedNumber (spareAt narrow t a)
     by (size p c) x y hx hy = simp (c, p)
     by (outA p q c) x y hx hy = simp (c, p, q)

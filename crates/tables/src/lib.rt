@@ -394,7 +394,10 @@ fn update_rule(a: usize, s: Record) -> One
     ensures { λ d. ⌜ d ≡ updateRule a s ⌝ }
 {
     if is_absent(s) {
-        return One { code: 1003, first: s };
+        return One {
+            code: 1003,
+            first: s,
+        };
     }
     if stamps::is_lawful(s) {
         let g = stamps::update(s);
@@ -404,7 +407,10 @@ fn update_rule(a: usize, s: Record) -> One
             first: x,
         };
     }
-    One { code: 1012, first: s }
+    One {
+        code: 1012,
+        first: s,
+    }
 }
 
 // The rule of fork: s is slot a's record, u that of slot b, the lowest absent; found is 0 where none is.

@@ -62,8 +62,7 @@ loop-less c = search needs
 loop-again : tie.Need-loop-again Inv-loop μ-loop
 loop-again c =
     let l = c .before .before .before .before .before in
-    let g = l .before .args .t1 in
-    (
+    let g = l .before .args .t1 in (
       search needs,
       sym (found-more (g .words) (l .loop .i) (g .count) (omega arith) (sym (c .before .are-siblings .ensures) ∙ c .if1 .left)) ∙ l .loop .inv .1,
     )

@@ -104,14 +104,13 @@ loop-again c =
     let k₁ = b .push .result .count in
     let k₂ = c .push2 .result .count in
     let e₁ = b .push .ensures .0 in
-    let e₂ = c .push2 .ensures .0 in
-    (
+    let e₂ = c .push2 .ensures .0 in (
       search needs,
       turn-count (adding l) (s l) (t l) (l .loop .placed) (tail l) d (a .turned .ensures) k k₁ k₂ e₁ e₂
-      ∙ ap (λ (x : List ℕ). k + length x) (sym (more l (omega arith))) ∙ l .loop .inv .1,
+          ∙ ap (λ (x : List ℕ). k + length x) (sym (more l (omega arith))) ∙ l .loop .inv .1,
       turn-words (adding l) (s l) (t l) (l .loop .placed) (tail l) d (a .turned .ensures) k k₁ k₂ e₁ e₂ (out l .words) (b .push .result .words) (c .push2 .result .words)
-      (b .push .ensures .1) (c .push2 .ensures .1)
-      ∙ ap (sets (out l .words) k) (sym (more l (omega arith))) ∙ l .loop .inv .2,
+          (b .push .ensures .1) (c .push2 .ensures .1)
+          ∙ ap (sets (out l .words) k) (sym (more l (omega arith))) ∙ l .loop .inv .2,
     )
 
 push-requires-3 : tie.Need-push-requires-3 Inv-loop μ-loop

@@ -41,6 +41,7 @@ falls x₀ x r h e f = by (outcome (h .stamp) (h .sized) r (f ∙ ap stepped sha
   where
     shape : x ≡ bothOf true (h .stamp)
     shape = h .shape ∙ ap (λ (b : Bool). bothOf b (h .stamp)) e
+
     by : Outcome (h .stamp) r → r .id .count + digit (r .more) < x .id .count + digit (x .more)
     by (ended n g) = omega (arith, size r false (h .stamp) g, size x true (h .stamp) shape)
     by (stepped-on y z k s g) = omega (arith, size r true y g, size x true (h .stamp) shape)
@@ -51,6 +52,7 @@ goes-on x₀ x r h e f = by (outcome (h .stamp) (h .sized) r (f ∙ ap stepped (
   where
     remade : (b : Bool) (y : Stamp) → r ≡ bothOf b y → r ≡ bothOf (r .more) y
     remade b y g = g ∙ ap (λ (c : Bool). bothOf c y) (sym (ap (λ (x : Both). x .more) g))
+
     by : Outcome (h .stamp) r → Reached x₀ r
     by (ended n g) = record { stamp = h .stamp; sized = h .sized; shape = remade false (h .stamp) g; ahead = h .ahead; over = λ k. n }
     by (stepped-on y z k s g) =

@@ -58,8 +58,7 @@ loop-holds c =
     let g = c .before in
     let n = g .args .n in
     let few = stored-few n (g .pre .1) in
-    let f = made (c .widen .result) (front (n .words) (n .count)) (omega (arith, run-length (n .words) 0 (n .count))) (c .widen .ensures) in
-    (
+    let f = made (c .widen .result) (front (n .words) (n .count)) (omega (arith, run-length (n .words) 0 (n .count))) (c .widen .ensures) in (
       search needs,
       stored-few (g .args .t1) (g .pre .0),
       omega (arith, f .0, run-length (n .words) 0 (n .count)),
@@ -90,8 +89,7 @@ loop-again c =
     let s = getD (m .words) (l .loop .i) 0 in
     let k = pass-length true s (held a) in
     let j = run-length (a .words) 0 (a .count) in
-    let f = made (c .pass .result) (passW true s (held a)) (omega (arith, k, j)) (c .pass .ensures) in
-    (
+    let f = made (c .pass .result) (passW true s (held a)) (omega (arith, k, j)) (c .pass .ensures) in (
       search needs,
       search needs,
       omega (arith, f .0, k, j),

@@ -77,8 +77,7 @@ grown-requires : tie.Need-grown-requires
 grown-requires c κs =
     let l = c .before in
     let o = l .before .before .before in
-    let a = o .before in
-    (
+    let a = o .before in (
       stored-names narrow (a .before .args .r) (sym (a .is-lawful .ensures) ∙ not-false _ (o .if1 .left)) .1,
       sym (l .is-long .ensures) ∙ c .if2 .left,
       omega arith,
@@ -88,8 +87,7 @@ grown-requires-2 : tie.Need-grown-requires-2
 grown-requires-2 c κs =
     let l = c .before .before in
     let o = l .before .before .before in
-    let a = o .before in
-    (
+    let a = o .before in (
       stored-names narrow (a .before .args .r) (sym (a .is-lawful .ensures) ∙ not-false _ (o .if1 .left)) .1,
       sym (l .is-long .ensures) ∙ c .before .if2 .left,
       omega arith,

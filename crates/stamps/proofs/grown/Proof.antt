@@ -66,13 +66,12 @@ loop-again : tie.Need-loop-again Inv-loop μ-loop
 loop-again c =
     let l = c .before .before in
     let g = l .before in
-    let w = word g (l .loop .i) (omega arith) in
-    (
+    let w = word g (l .loop .i) (omega arith) in (
       search needs,
       search needs,
       l .loop .inv .2,
       firsts-more (longer (g .args .d)) (l .loop .i) _ (g .args .t1 .words) (l .loop .out .words) (l .loop .inv .3)
-      (ap (λ (x : ℕ). w + 1 + x) (uncut g (l .loop .i) (omega arith))),
+          (ap (λ (x : ℕ). w + 1 + x) (uncut g (l .loop .i) (omega arith))),
     )
 
 returns : tie.Need-returns Inv-loop μ-loop

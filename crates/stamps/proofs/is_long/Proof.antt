@@ -58,8 +58,7 @@ loop-less c = search needs
 loop-again : tie.Need-loop-again Inv-loop μ-loop
 loop-again c =
     let l = c .before .before .before in
-    let n = l .before .args .t1 in
-    (
+    let n = l .before .args .t1 in (
       search needs,
       search needs,
       sym (any-more long (stored-cons narrow n (l .before .pre) (l .loop .i) (omega arith)) (long-not _ (c .if1 .left))) ∙ l .loop .inv .2,

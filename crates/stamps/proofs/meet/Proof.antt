@@ -33,8 +33,7 @@ returns-3 c =
     let o = c .before in
     let b = o .before .before in
     let a = b .before .before in
-    rw
-    (
+    rw (
       sym (ap not (a .is-lawful .ensures)) ∙ b .before .if1 .left,
       sym (ap not (b .is-lawful2 .ensures)) ∙ o .before .if2 .left,
       sym (o .is-overlap .ensures) ∙ c .if3 .taken,
@@ -50,8 +49,7 @@ returns-4 c =
     let o = n .before .before in
     let b = o .before .before in
     let a = b .before .before in
-    rw
-    (
+    rw (
       sym (ap not (a .is-lawful .ensures)) ∙ b .before .if1 .left,
       sym (ap not (b .is-lawful2 .ensures)) ∙ o .before .if2 .left,
       sym (o .is-overlap .ensures) ∙ n .before .if3 .left,
@@ -65,8 +63,7 @@ returns-5 c =
     let o = n .before .before in
     let b = o .before .before in
     let a = b .before .before in
-    rw
-    (
+    rw (
       sym (ap not (a .is-lawful .ensures)) ∙ b .before .if1 .left,
       sym (ap not (b .is-lawful2 .ensures)) ∙ o .before .if2 .left,
       sym (o .is-overlap .ensures) ∙ n .before .if3 .left,

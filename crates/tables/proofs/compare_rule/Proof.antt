@@ -42,7 +42,12 @@ unfolding compareRule first unlawful
 returns-3 c =
     let p = c .before .before in
     let a = p .before .before in
-    simp (sym (a .before .is-absent .ensures) ∙ a .if1 .left, sym (p .before .is-absent2 .ensures) ∙ p .if2 .left, sym (c .before .is-lawful .ensures) ∙ not-true _ (c .if3 .taken))
+    simp (
+      sym (a .before .is-absent .ensures) ∙ a .if1 .left,
+      sym (p .before .is-absent2 .ensures) ∙ p .if2 .left,
+      sym (c .before .is-lawful .ensures)
+          ∙ not-true _ (c .if3 .taken),
+    )
 
 is-lawful-requires-2 : tie.Need-is-lawful-requires-2
 is-lawful-requires-2 c κs = search needs
@@ -53,9 +58,12 @@ returns-4 c =
     let l = c .before .before in
     let p = l .before .before in
     let a = p .before .before in
-    simp
-    (sym (a .before .is-absent .ensures) ∙ a .if1 .left, sym (p .before .is-absent2 .ensures) ∙ p .if2 .left,
-    sym (l .before .is-lawful .ensures) ∙ not-false _ (l .if3 .left), sym (c .before .is-lawful2 .ensures) ∙ not-true _ (c .if4 .taken))
+    simp (
+      sym (a .before .is-absent .ensures) ∙ a .if1 .left,
+      sym (p .before .is-absent2 .ensures) ∙ p .if2 .left,
+      sym (l .before .is-lawful .ensures) ∙ not-false _ (l .if3 .left),
+      sym (c .before .is-lawful2 .ensures) ∙ not-true _ (c .if4 .taken),
+    )
 
 returns-5 : tie.Need-returns-5
 unfolding compareRule first unlawful
@@ -64,9 +72,13 @@ returns-5 c =
     let l = m .before .before in
     let p = l .before .before in
     let a = p .before .before in
-    simp
-    (sym (a .before .is-absent .ensures) ∙ a .if1 .left, sym (p .before .is-absent2 .ensures) ∙ p .if2 .left,
-    sym (l .before .is-lawful .ensures) ∙ not-false _ (l .if3 .left), sym (m .before .is-lawful2 .ensures) ∙ not-false _ (m .if4 .left), eq-eqb _ _ (c .if5 .taken))
+    simp (
+      sym (a .before .is-absent .ensures) ∙ a .if1 .left,
+      sym (p .before .is-absent2 .ensures) ∙ p .if2 .left,
+      sym (l .before .is-lawful .ensures) ∙ not-false _ (l .if3 .left),
+      sym (m .before .is-lawful2 .ensures) ∙ not-false _ (m .if4 .left),
+      eq-eqb _ _ (c .if5 .taken),
+    )
 
 compare-requires : tie.Need-compare-requires
 compare-requires c κs = search needs

@@ -1,4 +1,5 @@
--- `tables::fresh` meets its contract: a walk of its MIR, by hand: one loop over the lent run, which is open meanwhile, with a store in each turn. Assumes nothing.
+-- `tables::fresh` meets its contract: a walk of its MIR, by hand: one loop over the lent run, which is open meanwhile, with a store in each turn. Assumes
+-- nothing.
 use mathlib.Core.Path.{_≡_, refl, sym, ap, subst, _∙_}
 use mathlib.Core.Bool.{Bool, true, false, not}
 use mathlib.Core.List.{List, [], _∷_}
@@ -21,9 +22,11 @@ use ghost.Atoms.{Atoms, sem}
 use contract.Monad.{Fun, fact}
 use contract.Running.{givenOf, tables, tablesOf}
 use sound.WpLaws.{FmC, fmOf, WpFn-mono}
-use types.Kit.{Given, Item, Sq, use0, ‵, raw, _⊛_, ⋆, some, later, use1, use2, pick, await, runs, anyQ, atRet, _$_, _∵_, !, qed, by, move, keep, drop, split, join, rewrite, fsplit, fjoin, suffices, frame, done}
+use types.Kit.{Given, Item, Sq, use0, ‵, raw, _⊛_, ⋆, some, later, use1, use2, pick, await, runs, anyQ, atRet, _$_, _∵_, !, qed, by, move, keep, drop}
+use types.Kit.{split, join, rewrite, fsplit, fjoin, suffices, frame, done}
 use types.Part.{whole, sub, look-in}
-use types.Run.{look, store, store-raw, init, and-then, no-more, land, first, blocks, loops, again, Below, stays, leaves-loop, exec, forget, stop, hop, fld, from, load, lit, of-opd, bin, assigns, assigns-last, returns, enter, alloc1, alloc0, params1, pass1, pass0, free1, free0}
+use types.Run.{look, store, store-raw, init, and-then, no-more, land, first, blocks, loops, again, Below, stays, leaves-loop, exec, forget, stop, hop, fld}
+use types.Run.{from, load, lit, of-opd, bin, assigns, assigns-last, returns, enter, alloc1, alloc0, params1, pass1, pass0, free1, free0}
 use borrow.Author.Needs.{scaled-fits}
 use borrow.Author.Tests.{ltb-true, ltb-false}
 use denote.RattleType.{owns}
@@ -111,7 +114,8 @@ fewer m u t = m - u .i < m - t .i
 fewer-wf : (m : ℕ) → WellFounded (fewer m)
 fewer-wf m = record { apply = λ t. InvImage·accessible (λ (u : At m). m - u .i) (Nat·lt-wfRel .wf .apply (m - t .i)) }
 
-module _ {M : Type 1} (𝓤 : URA M) (H : Heap 𝓤) (A : Atoms 𝓤) (W : Given 𝓤 H A) (at-mem : Memory → SProp 𝓤) (run : Routine → Fun 𝓤) (κ : Lft) (q : Share) (b o : ℕ) (γ : GName) (ys : List Record) where
+module _ {M : Type 1} (𝓤 : URA M) (H : Heap 𝓤) (A : Atoms 𝓤) (W : Given 𝓤 H A) (at-mem : Memory → SProp 𝓤) (run : Routine → Fun 𝓤) (κ : Lft) (q : Share)
+    (b o : ℕ) (γ : GName) (ys : List Record) where
   abbrev Arg : Type 0
   Arg = RefT (List Record) × Unit {0}
 
@@ -128,14 +132,18 @@ module _ {M : Type 1} (𝓤 : URA M) (H : Heap 𝓤) (A : Atoms 𝓤) (W : Given
   Post = walkOf 𝓤 H A f.ended stayed (f.clauses 𝓤 H A at-mem run) .post (((κ, tt), (q, tt), tt, x, at), tt)
 
   -- at exit: the list zs, as long as ys, and the code r
-  exits : (zs : List Record) (r : ℕ) → length zs ≡ length ys → (r ≡ slotNumber (makeFresh narrow ys .answer)) × (zs ≡ makeFresh narrow ys .table) → r < 2 ^ 64 → Room T.the-row (length ys)
-      → ent 𝓤 (⋆ 𝓤 H A (‵ (fobs γ (codedHoleys T.the-row .code (heres T.the-row zs))) ∷ ‵ (fbor κ (Held T.the-row (length zs) b o γ)) ∷ ‵ (flft κ q) ∷ ‵ ftrue ∷ []))
+  exits : (zs : List Record) (r : ℕ) → length zs ≡ length ys → (r ≡ slotNumber (makeFresh narrow ys .answer)) × (zs ≡ makeFresh narrow ys .table)
+      → r < 2 ^ 64 → Room T.the-row (length ys)
+      → ent 𝓤 (⋆ 𝓤 H A (‵ (fobs γ (codedHoleys T.the-row .code (heres T.the-row zs))) ∷ ‵ (fbor κ (Held T.the-row (length zs) b o γ)) ∷ ‵ (flft κ q)
+      ∷ ‵ ftrue ∷ []))
       (Post (vint w64 r))
   exits zs r same said gr gn =
       qed W (‵ (fobs γ (codedHoleys T.the-row .code (heres T.the-row zs))) ∷ ‵ (fbor κ (Held T.the-row (length zs) b o γ)) ∷ ‵ (flft κ q) ∷ ‵ ftrue ∷ []) ∵
-      suffices ! _ (ends-at 𝓤 H A f.ended stayed (f.clauses 𝓤 H A at-mem run) W (((κ, tt), (q, tt), tt, x, at), tt) (vint w64 r) r (zs, tt) (same, tt)) $ says ! said $
+      suffices ! _ (ends-at 𝓤 H A f.ended stayed (f.clauses 𝓤 H A at-mem run) W (((κ, tt), (q, tt), tt, x, at), tt) (vint w64 r) r (zs, tt) (same, tt)) $
+      says ! said $
       nothing ! $ move ! (3 ∷ 0 ∷ []) $ join ! $
-      frame ! $ fjoin ! $ pureI ! (at-slice T.the-row (record { ptr = (b, o); name = γ; now = zs }) (at .0)) (tt, (tt, tt)) (ap (λ (n : ℕ). sliceVal (b, o) n ∷ []) (sym same), subst (Room T.the-row) (sym same) gn) $ fjoin ! $ fjoin ! $ frame ! $
+      frame ! $ fjoin ! $ pureI ! (at-slice T.the-row (record { ptr = (b, o); name = γ; now = zs }) (at .0)) (tt, (tt, tt))
+      (ap (λ (n : ℕ). sliceVal (b, o) n ∷ []) (sym same), subst (Room T.the-row) (sym same) gn) $ fjoin ! $ fjoin ! $ frame ! $
       owned ! u64 (Is u64) (uint-makes 𝓤 H A W w64) r _ (refl, gr) $ done !
 
   abbrev toRoom : RoomC 𝓤 H A at-mem run .Ghost
@@ -148,7 +156,8 @@ module _ {M : Type 1} (𝓤 : URA M) (H : Heap 𝓤) (A : Atoms 𝓤) (W : Given
   toSlot i = ((tt, tt, tt, (i, tt), (vint w64 i ∷ [], tt)), tt)
 
   goes-room : length ys < 2 ^ 64 → ent 𝓤 (emp 𝓤) (RoomC 𝓤 H A at-mem run .pre toRoom)
-  goes-room h = qed W [] ∵ nothing ! $ owned ! usize (Is usize) (uint-makes 𝓤 H A W w64) (length ys) _ (refl, h) $ fjoin ! $ nothing ! $ join ! $ frame ! $ done !
+  goes-room h = qed W [] ∵ nothing ! $ owned ! usize (Is usize) (uint-makes 𝓤 H A W w64) (length ys) _ (refl, h) $ fjoin ! $ nothing ! $ join ! $ frame ! $
+      done !
 
   goes-code : m < 2 ^ 64 → ent 𝓤 (emp 𝓤) (CodeC 𝓤 H A at-mem run .pre toCode)
   goes-code h = qed W [] ∵ nothing ! $ owned ! usize (Is usize) (uint-makes 𝓤 H A W w64) m _ (refl, h) $ fjoin ! $ nothing ! $ join ! $ frame ! $ done !
@@ -156,15 +165,18 @@ module _ {M : Type 1} (𝓤 : URA M) (H : Heap 𝓤) (A : Atoms 𝓤) (W : Given
   goes-slot : (i : ℕ) → i < 2 ^ 64 → ent 𝓤 (emp 𝓤) (SlotC 𝓤 H A at-mem run .pre (toSlot i))
   goes-slot i h = qed W [] ∵ nothing ! $ owned ! usize (Is usize) (uint-makes 𝓤 H A W w64) i _ (refl, h) $ fjoin ! $ nothing ! $ join ! $ frame ! $ done !
 
-  module _ (𝓣 : Tables 𝓤 H) (known-slot : Triple 𝓤 (𝓣 .C #tables·fresh-slot) (SlotC 𝓤 H A at-mem run)) (known-code : Triple 𝓤 (𝓣 .C #tables·room-code) (CodeC 𝓤 H A at-mem run))
+  module _ (𝓣 : Tables 𝓤 H) (known-slot : Triple 𝓤 (𝓣 .C #tables·fresh-slot) (SlotC 𝓤 H A at-mem run))
+      (known-code : Triple 𝓤 (𝓣 .C #tables·room-code) (CodeC 𝓤 H A at-mem run))
       (gn : Room T.the-row (length ys)) (gm : m < 2 ^ 64) (l₀ l₁ l₂ l₃ l₄ l₅ l₆ l₇ l₈ : ℕ) where
     abbrev En : Env 𝓤 H
     En = (word, l₀) ∷ (slice, l₁) ∷ (word, l₂) ∷ (word, l₃) ∷ (word, l₄) ∷ (tyBool, l₅) ∷ (T′.mir, l₆) ∷ (word, l₇) ∷ (tyPtr, l₈) ∷ []
 
     -- the context at the loop's head: the run is open, and its first slots are filled
     abbrev I : At m → List (Item 𝓤)
-    I t = ‵ (row T.the-row fullShare (filledTo (t .i) ys) b o) ∷ ‵ (fobor κ q (Held T.the-row (length ys) b o γ)) ∷ ‵ (fobs γ (codedHoleys T.the-row .code (heres T.the-row ys))) ∷ ‵ (fauth γ (codedHoleys T.the-row .code (heres T.the-row ys))) ∷ ‵ ftrue
-        ∷ ‵ (froom tyPtr l₈ 0) ∷ ‵ (fdies tyPtr l₈) ∷ ‵ (froom word l₇ 0) ∷ ‵ (fdies word l₇) ∷ ‵ (froom T′.mir l₆ 0) ∷ ‵ (fdies T′.mir l₆) ∷ ‵ (froom tyBool l₅ 0) ∷ ‵ (fdies tyBool l₅) ∷ ‵ (froom word l₄ 0) ∷ ‵ (fdies word l₄)
+    I t = ‵ (row T.the-row fullShare (filledTo (t .i) ys) b o) ∷ ‵ (fobor κ q (Held T.the-row (length ys) b o γ))
+        ∷ ‵ (fobs γ (codedHoleys T.the-row .code (heres T.the-row ys))) ∷ ‵ (fauth γ (codedHoleys T.the-row .code (heres T.the-row ys))) ∷ ‵ ftrue
+        ∷ ‵ (froom tyPtr l₈ 0) ∷ ‵ (fdies tyPtr l₈) ∷ ‵ (froom word l₇ 0) ∷ ‵ (fdies word l₇) ∷ ‵ (froom T′.mir l₆ 0) ∷ ‵ (fdies T′.mir l₆)
+        ∷ ‵ (froom tyBool l₅ 0) ∷ ‵ (fdies tyBool l₅) ∷ ‵ (froom word l₄ 0) ∷ ‵ (fdies word l₄)
         ∷ ‵ (fat fullShare word l₃ 0 (vint w64 (t .i))) ∷ ‵ (fdies word l₃) ∷ ‵ (fat fullShare word l₂ 0 (vint w64 m)) ∷ ‵ (fdies word l₂)
         ∷ ‵ (fat fullShare slice l₁ 0 (sliceVal (b, o) (length ys))) ∷ ‵ (fdies slice l₁) ∷ ‵ (froom word l₀ 0) ∷ ‵ (fdies word l₀) ∷ []
 
@@ -184,19 +196,25 @@ module _ {M : Type 1} (𝓤 : URA M) (H : Heap 𝓤) (A : Atoms 𝓤) (W : Given
           let e : t .i ≡ m = omega (arith, t .le) in
           (fresh-is ys .0, ap (λ (k : ℕ). filledTo k ys) e ∙ fresh-is ys .1)
 
-      turn-at : (y : Bool) → ltb (t .i) m ≡ y → Sq W (I t) (runs (𝓣 .C) (𝓣 .Λ) En code.Mir.turn-1 (anyQ (afterTurn 𝓤 H (Below 𝓤 H A (fewer m) I t) (afterBlock 𝓤 H (afterSeq 𝓤 H (Wp 𝓤 H (𝓣 .C) (𝓣 .Λ) En code.Mir.t-5 (atReturn 𝓤 H En Post)) (atReturn 𝓤 H En Post))))))
+      turn-at : (y : Bool) → ltb (t .i) m ≡ y
+          → Sq W (I t) (runs (𝓣 .C) (𝓣 .Λ) En code.Mir.turn-1
+          (anyQ (afterTurn 𝓤 H (Below 𝓤 H A (fewer m) I t)
+          (afterBlock 𝓤 H (afterSeq 𝓤 H (Wp 𝓤 H (𝓣 .C) (𝓣 .Λ) En code.Mir.t-5 (atReturn 𝓤 H En Post)) (atReturn 𝓤 H En Post))))))
       unfolding afterTurn next-at
       turn-at true e =
           let l : t .i < m = ltb-true _ _ e in
           let li : t .i < length ys = omega (arith, room-le (length ys)) in
           let lz : t .i < length zs = subst (λ (n : ℕ). t .i < n) (sym (filled-length (t .i) ys)) li in
           let fi = scaled-fits (t .i) (length ys) 272 li (gn .1) in
-          assigns ! (bin ! (load ! (from ! (stop !)) (look ! 15 refl)) (load ! (from ! (stop !)) (look ! 17 refl)) tt) (from ! (stop !)) (init ! 11 refl (tt, tt)) $
+          assigns ! (bin ! (load ! (from ! (stop !)) (look ! 15 refl)) (load ! (from ! (stop !)) (look ! 17 refl)) tt) (from ! (stop !))
+          (init ! 11 refl (tt, tt)) $
           rewrite ! 11 (λ (y : Bool). ‵ (fat fullShare tyBool l₅ 0 (vbool y))) e refl $ stays ! (load ! (from ! (stop !)) (look ! 11 refl)) $
           -- `fresh_slot`
           use0 W (raw (SlotC 𝓤 H A at-mem run .pre (toSlot (t .i)))) (goes-slot (t .i) (omega (arith, gm))) $
-          calls-at ! (fmOf 𝓤 H (W .laws) 𝓣) (SlotC 𝓤 H A at-mem run) known-slot (toSlot (t .i)) (and-then ! (load ! (from ! (stop !)) (look ! 16 refl)) (no-more !)) (λ u.
-          use1 W (later (some (λ (r : Record). (‵ ftrue ⊛ ‵ (T.the-row .own r (u ∷ []))) ⊛ raw (ensured 𝓤 H A slot′.ended (slot′.clauses 𝓤 H A at-mem run) tt (t .i, tt) tt r)))) (id⊢ 𝓤 _) $ await ! tt $ pick ! (λ r.
+          calls-at ! (fmOf 𝓤 H (W .laws) 𝓣) (SlotC 𝓤 H A at-mem run) known-slot (toSlot (t .i)) (and-then ! (load ! (from ! (stop !)) (look ! 16 refl))
+          (no-more !)) (λ u.
+          use1 W (later (some (λ (r : Record). (‵ ftrue ⊛ ‵ (T.the-row .own r (u ∷ [])))
+          ⊛ raw (ensured 𝓤 H A slot′.ended (slot′.clauses 𝓤 H A at-mem run) tt (t .i, tt) tt r)))) (id⊢ 𝓤 _) $ await ! tt $ pick ! (λ r.
           split ! $ move ! (1 ∷ []) $ use1 W (raw (fact 𝓤 (r ≡ s))) (slot-of 𝓤 H A at-mem run (t .i) r) $ heard ! (r ≡ s) (λ e′. split ! $ drop ! $
           rewrite ! 0 (λ (h : Record). ‵ (T.the-row .own h (u ∷ []))) e′ refl $
           peeks ! T.the-row (Is T.the-row) (shows 𝓤 H A T.the-row) s (u ∷ []) (λ is.
@@ -206,26 +224,34 @@ module _ {M : Type 1} (𝓤 : URA M) (H : Heap 𝓤) (A : Atoms 𝓤) (W : Given
           rewrite ! 10 (λ (w : Val). ‵ (fat fullShare T′.mir l₆ 0 w)) (ap only told) refl $ drop ! $
           -- t[i]
           assigns ! (bin ! (load ! (from ! (stop !)) (look ! 15 refl)) (lit ! tt) fi) (from ! (stop !)) (init ! 7 refl (tt, fi)) $
-          assigns ! (bin ! (load ! (from ! (fld ! refl (stop !))) (look-in ! 19 (sub ! 0 refl (whole !)))) (load ! (from ! (stop !)) (look ! 7 refl)) tt) (from ! (stop !)) (init ! 5 refl (tt, tt)) $
+          assigns ! (bin ! (load ! (from ! (fld ! refl (stop !))) (look-in ! 19 (sub ! 0 refl (whole !)))) (load ! (from ! (stop !)) (look ! 7 refl)) tt)
+          (from ! (stop !)) (init ! 5 refl (tt, tt)) $
           rewrite ! 5 (λ (p : ℕ). ‵ (fat fullShare tyPtr l₈ 0 (vptr b p))) (sym (place-is 272 o (t .i))) refl $
-          elem-out ! T.the-row (Is T.the-row) (shows 𝓤 H A T.the-row) (LL.vals T.the-type T′.the-laws) (LL.tells T.the-type T′.the-laws) fullShare zs (t .i) outside b o lz (λ _.
+          elem-out ! T.the-row (Is T.the-row) (shows 𝓤 H A T.the-row) (LL.vals T.the-type T′.the-laws) (LL.tells T.the-type T′.the-laws) fullShare zs (t .i)
+          outside b o lz (λ _.
           move ! (1 ∷ []) $ drop ! $
           -- [t[i]; the others; the open borrow; obs; auth; true; _8; …]
-          assigns ! (of-opd ! (load ! (from ! (stop !)) (look ! 10 refl))) (from ! (hop ! (look ! 6 refl) (stop !))) (store-raw ! 0 refl (LL.lawful T.the-type T′.the-laws 𝓤 H A W .typed s _ is′ .0)) $
+          assigns ! (of-opd ! (load ! (from ! (stop !)) (look ! 10 refl))) (from ! (hop ! (look ! 6 refl) (stop !)))
+          (store-raw ! 0 refl (LL.lawful T.the-type T′.the-laws 𝓤 H A W .typed s _ is′ .0)) $
           owned ! T.the-row (Is T.the-row) (LL.makes T.the-type T′.the-plain 𝓤 H A) s _ is′ $ move ! (1 ∷ 0 ∷ []) $
           elem-put ! T.the-row fullShare zs (t .i) s (LL.vals T.the-type T′.the-laws s) b o lz $
-          assigns-last ! (bin ! (load ! (from ! (stop !)) (look ! 15 refl)) (lit ! tt) (record { fits = omega (arith, gm) })) (from ! (stop !)) (store ! 15 refl (tt, record { fits = omega (arith, gm) })) $
+          assigns-last ! (bin ! (load ! (from ! (stop !)) (look ! 15 refl)) (lit ! tt) (record { fits = omega (arith, gm) })) (from ! (stop !))
+          (store ! 15 refl (tt, record { fits = omega (arith, gm) })) $
           forget ! 5 refl $ forget ! 7 refl $ forget ! 9 refl $ forget ! 11 refl $
           rewrite ! 0 (λ (n : List Record). ‵ (row T.the-row fullShare n b o)) (filled-more (t .i) ys) refl $
           again ! (fewer m) I t (next-at l) (omega arith))))))
       turn-at false e =
           let h : m ≤ t .i = ltb-false _ _ e in
-          assigns ! (bin ! (load ! (from ! (stop !)) (look ! 15 refl)) (load ! (from ! (stop !)) (look ! 17 refl)) tt) (from ! (stop !)) (init ! 11 refl (tt, tt)) $
-          rewrite ! 11 (λ (y : Bool). ‵ (fat fullShare tyBool l₅ 0 (vbool y))) e refl $ leaves-loop ! (load ! (from ! (stop !)) (look ! 11 refl)) $ exec ! (𝓣 .C) (𝓣 .Λ) En code.Mir.t-5 (atRet En Post) $
+          assigns ! (bin ! (load ! (from ! (stop !)) (look ! 15 refl)) (load ! (from ! (stop !)) (look ! 17 refl)) tt) (from ! (stop !))
+          (init ! 11 refl (tt, tt)) $
+          rewrite ! 11 (λ (y : Bool). ‵ (fat fullShare tyBool l₅ 0 (vbool y))) e refl $ leaves-loop ! (load ! (from ! (stop !)) (look ! 11 refl)) $
+          exec ! (𝓣 .C) (𝓣 .Λ) En code.Mir.t-5 (atRet En Post) $
           -- `room_code`
           use0 W (raw (CodeC 𝓤 H A at-mem run .pre toCode)) (goes-code gm) $
-          calls-at ! (fmOf 𝓤 H (W .laws) 𝓣) (CodeC 𝓤 H A at-mem run) known-code toCode (and-then ! (load ! (from ! (stop !)) (look ! 18 refl)) (no-more !)) (λ v.
-          use1 W (later (some (λ (r : ℕ). (‵ ftrue ⊛ ‵ (u64 .own r (v ∷ []))) ⊛ raw (ensured 𝓤 H A code′.ended (code′.clauses 𝓤 H A at-mem run) tt (m, tt) tt r)))) (id⊢ 𝓤 _) $ await ! tt $ pick ! (λ r.
+          calls-at ! (fmOf 𝓤 H (W .laws) 𝓣) (CodeC 𝓤 H A at-mem run) known-code toCode (and-then ! (load ! (from ! (stop !)) (look ! 18 refl)) (no-more !))
+          (λ v.
+          use1 W (later (some (λ (r : ℕ). (‵ ftrue ⊛ ‵ (u64 .own r (v ∷ [])))
+          ⊛ raw (ensured 𝓤 H A code′.ended (code′.clauses 𝓤 H A at-mem run) tt (m, tt) tt r)))) (id⊢ 𝓤 _) $ await ! tt $ pick ! (λ r.
           split ! $ move ! (1 ∷ []) $ use1 W (raw (fact 𝓤 (r ≡ roomCode m))) (code-of 𝓤 H A at-mem run m r) $ heard ! (r ≡ roomCode m) (λ ec. split ! $ drop ! $
           rewrite ! 0 (λ (h : ℕ). ‵ (u64 .own h (v ∷ []))) ec refl $
           peeks ! u64 (Is u64) (shows 𝓤 H A u64) (roomCode m) (v ∷ []) (λ ic.
@@ -234,11 +260,15 @@ module _ {M : Type 1} (𝓤 : URA M) (H : Heap 𝓤) (A : Atoms 𝓤) (W : Given
           closes-slice ! tt T.the-row ys zs (filled-length (t .i) ys) b o $
           -- [obs; the borrow; the token; true; _8; …]
           returns ! (look ! 20 refl) $ forget ! 10 refl $ forget ! 14 refl $ forget ! 16 refl $ forget ! 18 refl $ forget ! 20 refl $
-          move ! (20 ∷ 21 ∷ []) $ free1 ! $ move ! (18 ∷ 19 ∷ []) $ free1 ! $ move ! (16 ∷ 17 ∷ []) $ free1 ! $ move ! (14 ∷ 15 ∷ []) $ free1 ! $ move ! (12 ∷ 13 ∷ []) $ free1 ! $
+          move ! (20 ∷ 21 ∷ []) $ free1 ! $ move ! (18 ∷ 19 ∷ []) $ free1 ! $ move ! (16 ∷ 17 ∷ []) $ free1 ! $ move ! (14 ∷ 15 ∷ []) $ free1 ! $
+          move ! (12 ∷ 13 ∷ []) $ free1 ! $
           move ! (10 ∷ 11 ∷ []) $ free1 ! $ move ! (8 ∷ 9 ∷ []) $ free1 ! $ move ! (6 ∷ 7 ∷ []) $ free1 ! $ move ! (4 ∷ 5 ∷ []) $ free1 ! $ free0 ! $
           keep ! (0 ∷ 1 ∷ 2 ∷ 3 ∷ []) $ by ! (exits zs (roomCode m) (filled-length (t .i) ys) (at-end h) (ic .1) gn)))))
 
-    turns : (t : At m) → Sq W (I t) (runs (𝓣 .C) (𝓣 .Λ) En code.Mir.turn-1 (anyQ (afterTurn 𝓤 H (Below 𝓤 H A (fewer m) I t) (afterBlock 𝓤 H (afterSeq 𝓤 H (Wp 𝓤 H (𝓣 .C) (𝓣 .Λ) En code.Mir.t-5 (atReturn 𝓤 H En Post)) (atReturn 𝓤 H En Post))))))
+    turns : (t : At m) → Sq W (I t)
+        (runs (𝓣 .C) (𝓣 .Λ) En code.Mir.turn-1
+        (anyQ (afterTurn 𝓤 H (Below 𝓤 H A (fewer m) I t)
+        (afterBlock 𝓤 H (afterSeq 𝓤 H (Wp 𝓤 H (𝓣 .C) (𝓣 .Λ) En code.Mir.t-5 (atReturn 𝓤 H En Post)) (atReturn 𝓤 H En Post))))))
     turns t = turn-at t (ltb (t .i) m) refl
 
     -- the loop and what follows it
@@ -248,18 +278,23 @@ module _ {M : Type 1} (𝓤 : URA M) (H : Heap 𝓤) (A : Atoms 𝓤) (W : Given
   starts : At m
   starts = record { i = 0; le = omega arith }
 
-  walk : (𝓣 : Tables 𝓤 H) → Triple 𝓤 (𝓣 .C #tables·room) (RoomC 𝓤 H A at-mem run) → Triple 𝓤 (𝓣 .C #tables·fresh-slot) (SlotC 𝓤 H A at-mem run) → Triple 𝓤 (𝓣 .C #tables·room-code) (CodeC 𝓤 H A at-mem run) → Room T.the-row (length ys)
+  walk : (𝓣 : Tables 𝓤 H) → Triple 𝓤 (𝓣 .C #tables·room) (RoomC 𝓤 H A at-mem run) → Triple 𝓤 (𝓣 .C #tables·fresh-slot) (SlotC 𝓤 H A at-mem run)
+      → Triple 𝓤 (𝓣 .C #tables·room-code) (CodeC 𝓤 H A at-mem run) → Room T.the-row (length ys)
       → ent 𝓤 (onEntry 𝓤 H A f.signature (κ, tt) (q, tt) x at) (WpFn 𝓤 H (𝓣 .C) (𝓣 .Λ) code.function (sliceVal (b, o) (length ys) ∷ []) Post)
   unfolding starts filledTo
   walk 𝓣 known-room known-slot known-code gn =
-      qed W ((‵ (flft κ q) ⊛ ‵ ftrue) ∷ ‵ (owns (MutSlice (named 0) κ T.the-row ∷ []) x at) ∷ []) ∵ enter ! (𝓣 .C) (𝓣 .Λ) code.function (sliceVal (b, o) (length ys) ∷ []) _ $
-      alloc1 ! (λ l₀. alloc1 ! (λ l₁. alloc1 ! (λ l₂. alloc1 ! (λ l₃. alloc1 ! (λ l₄. alloc1 ! (λ l₅. alloc1 ! (λ l₆. alloc1 ! (λ l₇. alloc1 ! (λ l₈. alloc0 ! $ params1 ! $
+      qed W ((‵ (flft κ q) ⊛ ‵ ftrue) ∷ ‵ (owns (MutSlice (named 0) κ T.the-row ∷ []) x at) ∷ []) ∵ enter ! (𝓣 .C) (𝓣 .Λ) code.function
+      (sliceVal (b, o) (length ys) ∷ []) _ $
+      alloc1 ! (λ l₀. alloc1 ! (λ l₁. alloc1 ! (λ l₂. alloc1 ! (λ l₃. alloc1 ! (λ l₄. alloc1 ! (λ l₅.
+      alloc1 ! (λ l₆. alloc1 ! (λ l₇. alloc1 ! (λ l₈. alloc0 ! $ params1 ! $
       pass1 ! (init ! 14 refl (tt, (tt, (record { fits = gn .0 }, tt)))) $ pass0 ! $
-      assigns ! (of-opd ! (load ! (from ! (fld ! refl (stop !))) (look-in ! 14 (sub ! 1 refl (whole !))))) (from ! (stop !)) (init ! 8 refl (tt, record { fits = gn .0 })) $
+      assigns ! (of-opd ! (load ! (from ! (fld ! refl (stop !))) (look-in ! 14 (sub ! 1 refl (whole !))))) (from ! (stop !))
+      (init ! 8 refl (tt, record { fits = gn .0 })) $
       -- `room`
       use0 W (raw (RoomC 𝓤 H A at-mem run .pre toRoom)) (goes-room (gn .0)) $
       calls-at ! (fmOf 𝓤 H (W .laws) 𝓣) (RoomC 𝓤 H A at-mem run) known-room toRoom (and-then ! (load ! (from ! (stop !)) (look ! 9 refl)) (no-more !)) (λ u.
-      use1 W (later (some (λ (r : ℕ). (‵ ftrue ⊛ ‵ (usize .own r (u ∷ []))) ⊛ raw (ensured 𝓤 H A room′.ended (room′.clauses 𝓤 H A at-mem run) tt (length ys, tt) tt r)))) (id⊢ 𝓤 _) $ await ! tt $ pick ! (λ r.
+      use1 W (later (some (λ (r : ℕ). (‵ ftrue ⊛ ‵ (usize .own r (u ∷ [])))
+      ⊛ raw (ensured 𝓤 H A room′.ended (room′.clauses 𝓤 H A at-mem run) tt (length ys, tt) tt r)))) (id⊢ 𝓤 _) $ await ! tt $ pick ! (λ r.
       split ! $ move ! (1 ∷ []) $ use1 W (raw (fact 𝓤 (r ≡ m))) (room-of 𝓤 H A at-mem run (length ys) r) $ heard ! (r ≡ m) (λ em. split ! $ drop ! $
       rewrite ! 0 (λ (h : ℕ). ‵ (usize .own h (u ∷ []))) em refl $
       peeks ! usize (Is usize) (shows 𝓤 H A usize) m (u ∷ []) (λ im.
@@ -274,10 +309,13 @@ module _ {M : Type 1} (𝓤 : URA M) (H : Heap 𝓤) (A : Atoms 𝓤) (W : Given
       from-loop 𝓣 known-slot known-code gn (im .1) l₀ l₁ l₂ l₃ l₄ l₅ l₆ l₇ l₈ starts)))))))))))))
 
 module _ {M : Type 1} (𝓤 : URA M) (H : Heap 𝓤) (A : Atoms 𝓤) (W : Given 𝓤 H A) (at-mem : Memory → SProp 𝓤) (run : Routine → Fun 𝓤) (𝓣 : Tables 𝓤 H)
-    (known-room : Triple 𝓤 (𝓣 .C #tables·room) (RoomC 𝓤 H A at-mem run)) (known-slot : Triple 𝓤 (𝓣 .C #tables·fresh-slot) (SlotC 𝓤 H A at-mem run)) (known-code : Triple 𝓤 (𝓣 .C #tables·room-code) (CodeC 𝓤 H A at-mem run)) where
+    (known-room : Triple 𝓤 (𝓣 .C #tables·room) (RoomC 𝓤 H A at-mem run)) (known-slot : Triple 𝓤 (𝓣 .C #tables·fresh-slot) (SlotC 𝓤 H A at-mem run))
+    (known-code : Triple 𝓤 (𝓣 .C #tables·room-code) (CodeC 𝓤 H A at-mem run)) where
   fresh-walks : Walks 𝓤 H A f.ended stayed (WpFn 𝓤 H (𝓣 .C) (𝓣 .Λ) code.function) (f.clauses 𝓤 H A at-mem run)
-  fresh-walks = walked 𝓤 H A f.ended stayed (f.clauses 𝓤 H A at-mem run) (WpFn 𝓤 H (𝓣 .C) (𝓣 .Λ) code.function) (λ κs. (slice-vals, tt)) (λ κs. (mut-slice-tells (named 0) (κs .0) T.the-row, tt))
-      (λ κs qs bounds a _ are. via 𝓤 _ (fst∗ 𝓤 _ (emp 𝓤)) (walk 𝓤 H A W at-mem run (κs .0) (qs .0) (a .0 .ptr .0) (a .0 .ptr .1) (a .0 .name) (a .0 .now) 𝓣 known-room known-slot known-code (are .0 .0 .1)))
+  fresh-walks = walked 𝓤 H A f.ended stayed (f.clauses 𝓤 H A at-mem run) (WpFn 𝓤 H (𝓣 .C) (𝓣 .Λ) code.function) (λ κs. (slice-vals, tt))
+      (λ κs. (mut-slice-tells (named 0) (κs .0) T.the-row, tt))
+      (λ κs qs bounds a _ are. via 𝓤 _ (fst∗ 𝓤 _ (emp 𝓤)) (walk 𝓤 H A W at-mem run (κs .0) (qs .0) (a .0 .ptr .0) (a .0 .ptr .1) (a .0 .name) (a .0 .now) 𝓣
+      known-room known-slot known-code (are .0 .0 .1)))
 
   fresh-meets : Meets 𝓤 H A f.signature (WpFn 𝓤 H (𝓣 .C) (𝓣 .Λ) code.function) (f.spec 𝓤 H A at-mem run)
   fresh-meets =

@@ -43,9 +43,12 @@ returns-4 c =
     let k = c .before .before in
     let p = k .before in
     let a = p .before .before in
-    simp
-    (sym (a .before .is-absent .ensures) ∙ a .if1 .left, sym (p .before .is-absent2 .ensures) ∙ p .if2 .left,
-    ne-eqb _ _ (k .if3 .left), sym (c .before .is-lawful .ensures) ∙ not-true _ (c .if4 .taken))
+    simp (
+      sym (a .before .is-absent .ensures) ∙ a .if1 .left,
+      sym (p .before .is-absent2 .ensures) ∙ p .if2 .left,
+      ne-eqb _ _ (k .if3 .left),
+      sym (c .before .is-lawful .ensures) ∙ not-true _ (c .if4 .taken),
+    )
 
 is-lawful-requires-2 : tie.Need-is-lawful-requires-2
 is-lawful-requires-2 c κs = search needs
@@ -57,10 +60,13 @@ returns-5 c =
     let k = l .before .before in
     let p = k .before in
     let a = p .before .before in
-    simp
-    (sym (a .before .is-absent .ensures) ∙ a .if1 .left, sym (p .before .is-absent2 .ensures) ∙ p .if2 .left,
-    ne-eqb _ _ (k .if3 .left), sym (l .before .is-lawful .ensures) ∙ not-false _ (l .if4 .left),
-    sym (c .before .is-lawful2 .ensures) ∙ not-true _ (c .if5 .taken))
+    simp (
+      sym (a .before .is-absent .ensures) ∙ a .if1 .left,
+      sym (p .before .is-absent2 .ensures) ∙ p .if2 .left,
+      ne-eqb _ _ (k .if3 .left),
+      sym (l .before .is-lawful .ensures) ∙ not-false _ (l .if4 .left),
+      sym (c .before .is-lawful2 .ensures) ∙ not-true _ (c .if5 .taken),
+    )
 
 returns-6 : tie.Need-returns-6
 unfolding first unlawful
@@ -69,10 +75,13 @@ returns-6 c =
     let k = l .before .before in
     let p = k .before in
     let a = p .before .before in
-    simp
-    (sym (a .before .is-absent .ensures) ∙ a .if1 .left, sym (p .before .is-absent2 .ensures) ∙ p .if2 .left,
-    ne-eqb _ _ (k .if3 .left), sym (l .before .is-lawful .ensures) ∙ not-false _ (l .if4 .left),
-    sym (c .before .is-lawful2 .ensures) ∙ not-false _ (c .if5 .left))
+    simp (
+      sym (a .before .is-absent .ensures) ∙ a .if1 .left,
+      sym (p .before .is-absent2 .ensures) ∙ p .if2 .left,
+      ne-eqb _ _ (k .if3 .left),
+      sym (l .before .is-lawful .ensures) ∙ not-false _ (l .if4 .left),
+      sym (c .before .is-lawful2 .ensures) ∙ not-false _ (c .if5 .left),
+    )
 
 pub pair-code-spec : {M : Type 1} → statement M
 pair-code-spec =
