@@ -44,7 +44,7 @@ seekOf s r =
       mine = s .mine;
       next = nextOf (s .next);
       at = cond (absent narrow r) (s .next) (s .at);
-      code = cond (absent narrow r) 1 0;
+      code = cond (absent narrow r) 1 (s .code);
     }
 
 -- looking for a copy that makes slot `at` obsolete: that slot and absent ones are passed over

@@ -19,6 +19,9 @@ use rules::Refusal;
 use rules::Verdict;
 use rules::Words;
 
+// A table has at most so many records.
+pub const RECORDS: usize = 32;
+
 // What a rule answers and leaves in one record.
 pub struct One {
     pub code: u64,
@@ -120,7 +123,7 @@ fn gate(n: usize, a: usize, b: usize) -> u64
     if n == 0 {
         return 1012;
     }
-    if 32 < n {
+    if RECORDS < n {
         return 1012;
     }
     if n <= a {
@@ -136,7 +139,7 @@ fn gate(n: usize, a: usize, b: usize) -> u64
 fn room(n: usize) -> usize
     ensures { λ r. ⌜ r ≡ roomOf n ⌝ }
 {
-    if 32 < n {
+    if RECORDS < n {
         return 0;
     }
     n
@@ -353,9 +356,9 @@ fn slot_code(r: Record) -> u64
 fn look(s: Scan, r: Record) -> Scan
     ensures { λ x. ⌜ x ≡ lookOf s r ⌝ }
 {
-    let code = s.code;
+    let found = s.code;
     let kind = s.kind;
-    if code != 0 {
+    if found != 0 {
         return s;
     }
     if kind == 0 {
@@ -372,6 +375,7 @@ fn seek(s: Scan, r: Record) -> Scan
     let mine = s.mine;
     let here = s.next;
     let at = s.at;
+    let code = s.code;
     let next = after(here);
     if is_absent(r) {
         return Scan {
@@ -387,7 +391,7 @@ fn seek(s: Scan, r: Record) -> Scan
         mine: mine,
         next: next,
         at: at,
-        code: 0,
+        code: code,
     }
 }
 
@@ -442,15 +446,15 @@ fn meet_code(m: Record, r: Record) -> u64
 fn after(n: usize) -> usize
     ensures { λ r. ⌜ r ≡ nextOf n ⌝ }
 {
-    if n < 32 {
+    if n < RECORDS {
         return n + 1;
     }
     n
 }
 
-// The records become x and y, or stay on a refusal.
-fn settle_two(answer: Answer, n: usize, s: Record, u: Record, x: Record, y: Record) -> Two
-    ensures { λ d. ⌜ d ≡ twoOf answer n s u x y ⌝ }
+// The records p and q become x and y, or stay on a refusal.
+fn settle_two(answer: Answer, n: usize, p: Record, q: Record, x: Record, y: Record) -> Two
+    ensures { λ d. ⌜ d ≡ twoOf answer n p q x y ⌝ }
 {
     match answer {
         Answer::Done => Two {
@@ -460,8 +464,8 @@ fn settle_two(answer: Answer, n: usize, s: Record, u: Record, x: Record, y: Reco
         },
         Answer::Refused(r) => Two {
             code: refusal_code(r),
-            first: s,
-            second: u,
+            first: p,
+            second: q,
         },
     }
 }

@@ -28,7 +28,7 @@ unfolding seekOf
 returns-2 c =
     let g = c .before .before .before .before .args in
     simp (sym (c .before .is-absent .ensures) ∙ c .if1 .left)
-    (ap (λ (n : ℕ). record { kind = g .s .kind; mine = g .s .mine; next = n; at = g .s .at; code = 0 }) (c .before .before .after .ensures))
+    (ap (λ (n : ℕ). record { kind = g .s .kind; mine = g .s .mine; next = n; at = g .s .at; code = g .s .code }) (c .before .before .after .ensures))
 
 pub seek-spec : {M : Type 1} → statement M
 seek-spec = tie.close (tie.spec after-requires is-absent-requires returns returns-2)

@@ -26,14 +26,14 @@ refusal-code-requires c κs = search needs
 returns : tie.Need-returns
 returns c =
     let g = c .before .before .args in
-    sym (ap (λ (a : Answer). twoOf a (g .n) (g .s) (g .u) (g .x) (g .y)) (c .enum-told .given .1))
+    sym (ap (λ (a : Answer). twoOf a (g .n) (g .p) (g .q) (g .x) (g .y)) (c .enum-told .given .1))
 
 -- src/lib.rt:225:1
 returns-2 : tie.Need-returns-2
 returns-2 c =
     let g = c .before .before .before .before .args in
-    ap (λ (n : ℕ). record { code = n; first = g .s; second = g .u }) (c .refusal-code .ensures)
-    ∙ sym (ap (λ (a : Answer). twoOf a (g .n) (g .s) (g .u) (g .x) (g .y)) (c .before .before .answer .given .1))
+    ap (λ (n : ℕ). record { code = n; first = g .p; second = g .q }) (c .refusal-code .ensures)
+    ∙ sym (ap (λ (a : Answer). twoOf a (g .n) (g .p) (g .q) (g .x) (g .y)) (c .before .before .answer .given .1))
 
 pub settle-two-spec : {M : Type 1} → statement M
 settle-two-spec =
