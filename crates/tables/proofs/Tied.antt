@@ -1,0 +1,251 @@
+-- A gate that asks about numbers, and a rule that keeps the records on a refusal, do what the rules of the table say. Assumes nothing.
+use mathlib.Core.Path.{_≡_, refl, sym, ap, subst₂, _∙_}
+use mathlib.Core.Bool.{Bool, true, false, cond, not, _&&_, _||_}
+use mathlib.Core.List.{List, [], _∷_}
+use Prim.Native.Nat.{ℕ, zero, suc, _+_, _≤_, _<_}
+use native.Mathlib.Omega.{arith}
+use borrow.Author.Tests.{eqb-true, eqb-false, leb-true, leb-false, ltb-false}
+use lib.Dec.{eqb, leb, ltb}
+use lib.ListN.{length, getD, set}
+use lib.Seq.{set-getD}
+use Rattle.laws.proofs.Below.{below-refl}
+use Rattle.laws.proofs.Tests.{clash}
+use Rattle.rules.specs.Limits.{narrow, records}
+use Rattle.rules.specs.Packed.{comparedNumber}
+use Rattle.rules.specs.Refusals.{first, number, long, many, overlap, unseen}
+use Rattle.rules.specs.Stamps.{Stamp, update, fork, join, compare}
+use Rattle.rules.specs.Stored.{stored, blank, absent, unlawful, isStored, held}
+use Rattle.rules.specs.Tables.{Table, Step, outside, at, badSize, noSlot, lowest, full, stepped, slotNumber, sparedNumber, sparedAfter, spareFrom}
+use Rattle.rules.specs.Tables.{updateAt, forkAt, joinAt, compareAt, spareAt}
+use Rattle.rules.specs.Values.{told}
+use Rattle.rules.specs.declared.Record.{Record}
+use Rattle.rules.specs.declared.Answer.{Answer}
+use Rattle.rules.specs.declared.Answer.the-variants.{Done, Refused}
+use Rattle.rules.specs.declared.Refusal.{Refusal}
+use Rattle.rules.specs.declared.Refusal.the-variants.{NoSlot, OneSlot, Full, Long, Many, Overlap, Unseen, Unfit}
+use Rattle.rules.specs.declared.Spared.{Spared}
+use Rattle.rules.specs.declared.Verdict.{Verdict}
+use Rattle.rules.specs.declared.Verdict.the-variants.{Equal}
+use Rattle.tables.specs.declared.One.{One}
+use Rattle.tables.specs.declared.Two.{Two}
+use Rattle.tables.specs.declared.Scan.{Scan}
+use Rattle.tables.specs.Gates.{gateCode, zeros}
+use Rattle.tables.specs.Rules.{codeOf, answerCode, oneOf, twoOf, slotTests, pairTests, meetTests, updateRule, forkRule, joinRule, compareRule}
+use Rattle.tables.specs.Rules.{forkCode, forkList}
+use Rattle.tables.specs.Scans.{scanOf, seekStart, weighStart}
+use Rattle.tables.proofs.Forms.{lawful-then}
+use Rattle.tables.proofs.Passes.{Sought, sought, lowest-le, weighed, settled}
+
+-- ---- the gate
+
+abbrev badCount : ℕ → Bool
+badCount n = eqb n 0 || ltb records n
+
+-- the four ways past or into it
+data Gate (n a b : ℕ) : Type 0 where
+  size : badCount n ≡ true → gateCode n a b ≡ 1012 → Gate n a b
+  outA : badCount n ≡ false → leb n a ≡ true → gateCode n a b ≡ 1003 → Gate n a b
+  outB : badCount n ≡ false → leb n a ≡ false → leb n b ≡ true → gateCode n a b ≡ 1003 → Gate n a b
+  past : badCount n ≡ false → leb n a ≡ false → leb n b ≡ false → gateCode n a b ≡ 0 → Gate n a b
+
+gates : (n a b : ℕ) → Gate n a b
+unfolding gateCode
+gates n a b = by (badCount n) (leb n a) (leb n b) refl refl refl
+  where
+    by : (p q r : Bool) → badCount n ≡ p → leb n a ≡ q → leb n b ≡ r → Gate n a b
+    by true q r hp hq hr = size hp (simp hp)
+    by false true r hp hq hr = outA hp hq (simp (hp, hq))
+    by false false true hp hq hr = outB hp hq hr (simp (hp, hq, hr))
+    by false false false hp hq hr = past hp hq hr (simp (hp, hq, hr))
+
+-- past it both numbers are below the length
+pub gate-ok : (n a b : ℕ) → eqb (gateCode n a b) 0 ≡ true → (a < n) × (b < n)
+gate-ok n a b e = by (gates n a b)
+  where
+    by : Gate n a b → (a < n) × (b < n)
+    by (size p c) = absurd (omega (arith, eqb-true (gateCode n a b) 0 e))
+    by (outA p q c) = absurd (omega (arith, eqb-true (gateCode n a b) 0 e))
+    by (outB p q r c) = absurd (omega (arith, eqb-true (gateCode n a b) 0 e))
+    by (past p q r c) = (leb-false n a q, leb-false n b r)
+
+few : (n : ℕ) → badCount n ≡ false → n ≤ 32
+few n e = by (eqb n 0) (ltb records n) refl refl e
+  where
+    by : (p q : Bool) → eqb n 0 ≡ p → ltb records n ≡ q → (p || q) ≡ false → n ≤ 32
+    by true q hp hq e = absurd (clash refl e)
+    by false true hp hq e = absurd (clash refl e)
+    by false false hp hq e = ltb-false records n hq
+
+-- ---- rules that keep
+
+-- what is done to one record is what is done to the table: on a refusal it is stored back as it was
+one-stepped : (r : Answer) (t : Table) (a : ℕ) (x : Record)
+    → (oneOf r a (at t a) x .code ≡ slotNumber (stepped r a t (set t a x) .answer)) × (set t a (oneOf r a (at t a) x .first) ≡ stepped r a t (set t a x) .table)
+one-stepped Done t a x = (refl, refl)
+one-stepped (Refused r) t a x = (refl, set-getD t a outside)
+
+two-stepped : (r : Answer) (t : Table) (n a b : ℕ) (x y : Record)
+    → (twoOf r n (at t a) (at t b) x y .code ≡ slotNumber (stepped r n t (set (set t a x) b y) .answer))
+    × (set (set t a (twoOf r n (at t a) (at t b) x y .first)) b (twoOf r n (at t a) (at t b) x y .second) ≡ stepped r n t (set (set t a x) b y) .table)
+two-stepped Done t n a b x y = (refl, refl)
+two-stepped (Refused r) t n a b x y = (refl, rw (set-getD t a outside) (set-getD t b outside))
+
+-- ---- update
+
+abbrev pub updateCode : Table → ℕ → ℕ
+updateCode t a = cond (eqb (gateCode (length t) a a) 0) (updateRule a (at t a) .code) (gateCode (length t) a a)
+
+abbrev pub updateList : Table → ℕ → Table
+updateList t a = cond (eqb (gateCode (length t) a a) 0) (set t a (updateRule a (at t a) .first)) t
+
+pub update-tied : (t : Table) (a : ℕ) → (updateCode t a ≡ slotNumber (updateAt narrow t a .answer)) × (updateList t a ≡ updateAt narrow t a .table)
+unfolding updateAt updateRule first badSize noSlot
+update-tied t a = by (gates (length t) a a)
+  where
+    by : Gate (length t) a a → (updateCode t a ≡ slotNumber (updateAt narrow t a .answer)) × (updateList t a ≡ updateAt narrow t a .table)
+    by (size p c) = (simp (c, p), simp (c, p))
+    by (outA p q c) = (simp (c, p, q), simp (c, p, q))
+    by (outB p q r c) = absurd (clash r q)
+    by (past p q r c) =
+        let s = one-stepped (first (slotTests (at t a) [])) t a (stored narrow (update (held (at t a)))) in
+        (simp (c, p, q) (s .0), simp (c, p, q) (s .1))
+
+-- ---- compare
+
+compare-self : (s : Stamp) → compare s s ≡ Equal
+unfolding compare
+compare-self s = rw (below-refl (s .update)) refl
+
+-- a slot is equal to itself
+same-slot : (t : Table) (a b : ℕ) → cond (eqb a b) Equal (compare (held (at t a)) (held (at t b))) ≡ compare (held (at t a)) (held (at t b))
+same-slot t a b = by (eqb a b) refl
+  where
+    by : (e : Bool) → eqb a b ≡ e → cond e Equal (compare (held (at t a)) (held (at t b))) ≡ compare (held (at t a)) (held (at t b))
+    by true h = sym (compare-self (held (at t a))) ∙ ap (λ (n : ℕ). compare (held (at t a)) (held (at t n))) (eqb-true a b h)
+    by false h = refl
+
+abbrev pub compareCode : Table → ℕ → ℕ → ℕ
+compareCode t a b = cond (eqb (gateCode (length t) a b) 0) (compareRule a b (at t a) (at t b)) (gateCode (length t) a b)
+
+pub compare-tied : (t : Table) (a b : ℕ) → compareCode t a b ≡ comparedNumber (compareAt narrow t a b)
+unfolding compareAt compareRule first badSize noSlot
+compare-tied t a b = by (gates (length t) a b)
+  where
+    one : (z : Bool) → absent narrow (at t a) ≡ z → badCount (length t) ≡ false → leb (length t) a ≡ false → leb (length t) b ≡ true
+        → gateCode (length t) a b ≡ 1003
+        → compareCode t a b ≡ comparedNumber (compareAt narrow t a b)
+    one true z p q r c = simp (c, p, q, z)
+    one false z p q r c = simp (c, p, q, r, z)
+
+    by : Gate (length t) a b → compareCode t a b ≡ comparedNumber (compareAt narrow t a b)
+    by (size p c) = simp (c, p)
+    by (outA p q c) = simp (c, p, q)
+    by (outB p q r c) = one (absent narrow (at t a)) refl p q r c
+    by (past p q r c) = simp (c, p, q, r, same-slot t a b)
+
+-- ---- join
+
+abbrev pub joinCode : Table → ℕ → ℕ → ℕ
+joinCode t a b = cond (eqb (gateCode (length t) a b) 0) (joinRule a b (at t a) (at t b) .code) (gateCode (length t) a b)
+
+abbrev pub joinList : Table → ℕ → ℕ → Table
+joinList t a b =
+    cond (eqb (gateCode (length t) a b) 0) (set (set t a (joinRule a b (at t a) (at t b) .first)) b (joinRule a b (at t a) (at t b) .second)) t
+
+pub join-tied : (t : Table) (a b : ℕ) → (joinCode t a b ≡ slotNumber (joinAt narrow t a b .answer)) × (joinList t a b ≡ joinAt narrow t a b .table)
+unfolding joinAt joinRule first badSize noSlot
+join-tied t a b = by (gates (length t) a b)
+  where
+    one : (z : Bool) → absent narrow (at t a) ≡ z → badCount (length t) ≡ false → leb (length t) a ≡ false → leb (length t) b ≡ true
+        → gateCode (length t) a b ≡ 1003
+        → (joinCode t a b ≡ slotNumber (joinAt narrow t a b .answer)) × (joinList t a b ≡ joinAt narrow t a b .table)
+    one true z p q r c = (simp (c, p, q, z), simp (c, p, q, z))
+    one false z p q r c = (simp (c, p, q, r, z), simp (c, p, q, r, z))
+
+    by : Gate (length t) a b → (joinCode t a b ≡ slotNumber (joinAt narrow t a b .answer)) × (joinList t a b ≡ joinAt narrow t a b .table)
+    by (size p c) = (simp (c, p), simp (c, p))
+    by (outA p q c) = (simp (c, p, q), simp (c, p, q))
+    by (outB p q r c) = one (absent narrow (at t a)) refl p q r c
+    by (past p q r c) =
+        let s = two-stepped (first (pairTests a b (at t a) (at t b) (meetTests (at t a) (at t b)))) t a a b
+        (stored narrow (join (held (at t a)) (held (at t b)))) (blank narrow) in
+        (simp (c, p, q, r) (s .0), simp (c, p, q, r) (s .1))
+
+-- ---- fork
+
+abbrev pub sought-in : Table → ℕ → Scan
+sought-in t a = scanOf (seekStart a) t
+
+abbrev Forks : Table → ℕ → ℕ → ℕ → Type 0
+Forks t a b found = (forkCode t a b found ≡ slotNumber (forkAt narrow t a .answer)) × (forkList t a b found ≡ forkAt narrow t a .table)
+
+-- none is absent: slot a stands for b, and every answer is a refusal
+fork-full : (t : Table) (a : ℕ) → full narrow t ≡ true → Forks t a a 0
+unfolding forkAt forkRule first badSize noSlot
+fork-full t a f = by (gates (length t) a a) (absent narrow (at t a)) (unlawful narrow (at t a)) refl refl
+  where
+    back : set (set t a (at t a)) a (at t a) ≡ t
+    back = rw (set-getD t a outside) (set-getD t a outside)
+
+    by : Gate (length t) a a → (x y : Bool) → absent narrow (at t a) ≡ x → unlawful narrow (at t a) ≡ y → Forks t a a 0
+    by (size p c) x y hx hy = (simp (c, p), simp (c, p))
+    by (outA p q c) x y hx hy = (simp (c, p, q), simp (c, p, q))
+    by (outB p q r c) x y hx hy = absurd (clash r q)
+    by (past p q r c) true y hx hy = (simp (c, p, q, hx), simp (c, p, q, hx) back)
+    by (past p q r c) false true hx hy = (simp (c, p, q, hx, hy), simp (c, p, q, hx, hy) back)
+    by (past p q r c) false false hx hy = (simp (c, p, q, hx, hy, f), simp (c, p, q, hx, hy, f) back)
+
+low-lt : (t : Table) → full narrow t ≡ false → lowest narrow t < length t
+unfolding full
+low-lt t f = omega (arith, lowest-le t, eqb-false (lowest narrow t) (length t) f)
+
+fork-lowest : (t : Table) (a : ℕ) → full narrow t ≡ false → Forks t a (lowest narrow t) 1
+unfolding forkAt forkRule first badSize noSlot
+fork-lowest t a f = by (gates (length t) a (lowest narrow t))
+  where
+    by : Gate (length t) a (lowest narrow t) → Forks t a (lowest narrow t) 1
+    by (size p c) = (simp (c, p), simp (c, p))
+    by (outA p q c) = (simp (c, p, q), simp (c, p, q))
+    by (outB p q r c) = absurd (omega (arith, leb-true (length t) (lowest narrow t) r, low-lt t f))
+    by (past p q r c) =
+        let s = two-stepped (first (slotTests (at t a) ((long narrow (held (at t a)), Long) ∷ []))) t (lowest narrow t) a (lowest narrow t)
+        (stored narrow (fork false (held (at t a)))) (stored narrow (fork true (held (at t a)))) in
+        (simp (c, p, q, f) (s .0), simp (c, p, q, f) (s .1))
+
+fork-size : (t : Table) (a b found : ℕ) → badCount (length t) ≡ true → Forks t a b found
+unfolding forkAt gateCode first badSize
+fork-size t a b found p = (simp p, simp p)
+
+pub fork-tied : (t : Table) (a : ℕ) → Forks t a (sought-in t a .at) (sought-in t a .code)
+unfolding seekStart
+fork-tied t a = by (badCount (length t)) refl
+  where
+    found : (f : Bool) → full narrow t ≡ f → Sought t 0 a (sought-in t a) → Forks t a (sought-in t a .at) (sought-in t a .code)
+    found true f w = subst₂ (λ (b k : ℕ). Forks t a b k) (sym (simp f at (w .slot))) (sym (simp f at (w .found))) (fork-full t a f)
+    found false f w =
+        let e : 0 + lowest narrow t ≡ lowest narrow t = omega arith in
+        subst₂ (λ (b k : ℕ). Forks t a b k) (sym (simp (f, e) at (w .slot))) (sym (simp f at (w .found))) (fork-lowest t a f)
+
+    by : (p : Bool) → badCount (length t) ≡ p → Forks t a (sought-in t a .at) (sought-in t a .code)
+    by true p = fork-size t a (sought-in t a .at) (sought-in t a .code) p
+    by false p = found (full narrow t) refl (sought (zeros 0) 0 a t (omega (arith, few (length t) p)))
+
+-- ---- spare
+
+abbrev pub spareCode : Table → ℕ → ℕ
+spareCode t a = cond (eqb (gateCode (length t) a a) 0) (scanOf (weighStart a (at t a)) t .code) (gateCode (length t) a a)
+
+pub spare-tied : (t : Table) (a : ℕ) → spareCode t a ≡ sparedNumber (spareAt narrow t a)
+unfolding spareAt weighStart first badSize noSlot
+spare-tied t a = by (gates (length t) a a) (absent narrow (at t a)) (unlawful narrow (at t a)) refl refl
+  where
+    ends : (n : ℕ) → (n ≡ 0 → ⊥) → scanOf (record { kind = 1; mine = at t a; next = 0; at = a; code = n }) t .code ≡ n
+    ends n h = ap (λ (s : Scan). s .code) (settled (record { kind = 1; mine = at t a; next = 0; at = a; code = n }) t h)
+
+    by : Gate (length t) a a → (x y : Bool) → absent narrow (at t a) ≡ x → unlawful narrow (at t a) ≡ y → spareCode t a ≡ sparedNumber (spareAt narrow t a)
+    by (size p c) x y hx hy = simp (c, p)
+    by (outA p q c) x y hx hy = simp (c, p, q)
+    by (outB p q r c) x y hx hy = absurd (clash r q)
+    by (past p q r c) true y hx hy = simp (c, p, q, hx) (ends 1003 (λ z. omega arith))
+    by (past p q r c) false true hx hy = simp (c, p, q, hx, hy) (ends 1012 (λ z. omega arith))
+    by (past p q r c) false false hx hy = simp (c, p, q, hx, hy) (weighed (at t a) 0 a t (lawful-then (at t a) hy) (omega (arith, few (length t) p)))

@@ -1,0 +1,22 @@
+-- `tables::after` meets its contract. Assumes nothing.
+use borrow.Author.Tests.{lt-ltb, le-ltb}
+use Rattle.tables.specs.Scans.{nextOf}
+use borrow.Author.Needs.{needs}
+use Rattle.tables.proofs.after.Statement.{statement}
+use Rattle.tables.proofs.after.Tie as tie
+use Rattle.tables.proofs.after.Reads as reads
+use Rattle.tables.proofs.after.Lts as lts
+
+add-result : tie.Need-add-result
+add-result c = search needs
+
+returns : tie.Need-returns
+unfolding nextOf
+returns c = simp (lt-ltb _ _ (c .if1 .taken))
+
+returns-2 : tie.Need-returns-2
+unfolding nextOf
+returns-2 c = simp (le-ltb _ _ (c .if1 .left))
+
+pub after-spec : {M : Type 1} → statement M
+after-spec = tie.close (tie.spec add-result returns returns-2)

@@ -1,0 +1,45 @@
+-- `tables::compared_code` meets its contract: one way for each answer. Assumes nothing.
+use mathlib.Core.Path.{_≡_, sym, ap, _∙_}
+use Rattle.rules.specs.Packed.{comparedNumber}
+use borrow.Author.Needs.{needs}
+use Rattle.tables.proofs.compared_code.Statement.{statement}
+use Rattle.tables.proofs.compared_code.Tie as tie
+use Rattle.tables.proofs.compared_code.Reads as reads
+use Rattle.tables.proofs.compared_code.Lts as lts
+use Rattle.tables.proofs.refusal_code.Reads as refusal-code-reads
+use Rattle.tables.proofs.verdict_code.Reads as verdict-code-reads
+
+-- src/lib.rt:187:22
+enum-known-c : tie.Need-enum-known-c
+enum-known-c c = search needs
+
+-- src/lib.rt:187:28
+verdict-code-requires : tie.Need-verdict-code-requires
+verdict-code-requires c κs = search needs
+
+-- src/lib.rt:188:27
+enum-known-c-2 : tie.Need-enum-known-c-2
+enum-known-c-2 c = search needs
+
+-- src/lib.rt:188:33
+refusal-code-requires : tie.Need-refusal-code-requires
+refusal-code-requires c κs = search needs
+
+-- src/lib.rt:183:1
+returns : tie.Need-returns
+returns c = search needs
+
+-- src/lib.rt:183:1
+returns-2 : tie.Need-returns-2
+returns-2 c = c .refusal-code .ensures ∙ sym (ap comparedNumber (c .before .before .c2 .given .1))
+
+pub compared-code-spec : {M : Type 1} → statement M
+compared-code-spec =
+    tie.close
+    (tie.spec
+    enum-known-c
+    verdict-code-requires
+    enum-known-c-2
+    refusal-code-requires
+    returns
+    returns-2)

@@ -1,0 +1,36 @@
+-- `tables::meet_code` meets its contract. Assumes nothing.
+use mathlib.Core.Path.{_≡_, sym, ap, _∙_}
+use mathlib.Core.Bool.{not}
+use Rattle.rules.specs.Stored.{unlawful}
+use Rattle.tables.specs.Scans.{meetCode, spareCode}
+use borrow.Author.Needs.{needs}
+use Rattle.tables.proofs.meet_code.Statement.{statement}
+use Rattle.tables.proofs.meet_code.Tie as tie
+use Rattle.tables.proofs.meet_code.Reads as reads
+use Rattle.tables.proofs.meet_code.Lts as lts
+use Rattle.stamps.proofs.compare.Reads as compare-reads
+use Rattle.stamps.proofs.is_lawful.Reads as is-lawful-reads
+use Rattle.tables.proofs.spare_code.Reads as spare-code-reads
+
+is-lawful-requires : tie.Need-is-lawful-requires
+is-lawful-requires c κs = search needs
+
+compare-requires : tie.Need-compare-requires
+compare-requires c κs = search needs
+
+spare-code-requires : tie.Need-spare-code-requires
+spare-code-requires c κs = search needs
+
+returns : tie.Need-returns
+unfolding meetCode unlawful
+returns c =
+    simp (sym (c .before .before .before .is-lawful .ensures) ∙ c .before .before .if1 .taken)
+    (c .spare-code .ensures ∙ ap spareCode (c .before .compare .ensures))
+
+returns-2 : tie.Need-returns-2
+unfolding meetCode unlawful
+returns-2 c = simp (sym (c .before .is-lawful .ensures) ∙ c .if1 .left)
+
+pub meet-code-spec : {M : Type 1} → statement M
+meet-code-spec =
+    tie.close (tie.spec is-lawful-requires compare-requires spare-code-requires returns returns-2)

@@ -1,0 +1,16 @@
+-- `tables::room` meets its contract. Assumes nothing.
+use borrow.Author.Tests.{lt-ltb, le-ltb}
+use Rattle.tables.specs.Gates.{roomOf}
+use Rattle.tables.proofs.room.Statement.{statement}
+use Rattle.tables.proofs.room.Tie as tie
+
+returns : tie.Need-returns
+unfolding roomOf
+returns c = simp (lt-ltb _ _ (c .if1 .taken))
+
+returns-2 : tie.Need-returns-2
+unfolding roomOf
+returns-2 c = simp (le-ltb _ _ (c .if1 .left))
+
+pub room-spec : {M : Type 1} → statement M
+room-spec = tie.close (tie.spec returns returns-2)

@@ -1,0 +1,37 @@
+-- `tables::slot_code` meets its contract. Assumes nothing.
+use mathlib.Core.Path.{_≡_, sym, _∙_}
+use Rattle.rules.specs.Refusals.{first}
+use Rattle.rules.specs.Stored.{unlawful}
+use borrow.Author.Needs.{needs}
+use Rattle.tables.proofs.slot_code.Statement.{statement}
+use Rattle.tables.proofs.slot_code.Tie as tie
+use Rattle.tables.proofs.slot_code.Reads as reads
+use Rattle.tables.proofs.slot_code.Lts as lts
+use Rattle.stamps.proofs.is_lawful.Reads as is-lawful-reads
+use Rattle.tables.proofs.is_absent.Reads as is-absent-reads
+
+is-absent-requires : tie.Need-is-absent-requires
+is-absent-requires c κs = search needs
+
+returns : tie.Need-returns
+unfolding first
+returns c = simp (sym (c .before .is-absent .ensures) ∙ c .if1 .taken)
+
+is-lawful-requires : tie.Need-is-lawful-requires
+is-lawful-requires c κs = search needs
+
+returns-2 : tie.Need-returns-2
+unfolding first unlawful
+returns-2 c =
+    let a = c .before .before in
+    simp (sym (a .before .is-absent .ensures) ∙ a .if1 .left, sym (c .before .is-lawful .ensures) ∙ c .if2 .taken)
+
+returns-3 : tie.Need-returns-3
+unfolding first unlawful
+returns-3 c =
+    let a = c .before .before in
+    simp (sym (a .before .is-absent .ensures) ∙ a .if1 .left, sym (c .before .is-lawful .ensures) ∙ c .if2 .left)
+
+pub slot-code-spec : {M : Type 1} → statement M
+slot-code-spec =
+    tie.close (tie.spec is-absent-requires returns is-lawful-requires returns-2 returns-3)

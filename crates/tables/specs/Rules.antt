@@ -1,0 +1,93 @@
+-- What the rules by value answer and leave in the records that they are given: on a refusal, what they were.
+use mathlib.Core.Bool.{Bool, true, false, cond, not, _&&_, _||_}
+use mathlib.Core.List.{List, [], _∷_}
+use Prim.Native.Nat.{ℕ, _+_}
+use lib.Dec.{eqb}
+use lib.ListN.{length, set}
+use Rattle.rules.specs.Limits.{narrow}
+use Rattle.rules.specs.Stamps.{Stamp, update, fork, join, compare}
+use Rattle.rules.specs.Stored.{stored, held, unlawful, blank, absent}
+use Rattle.rules.specs.Refusals.{number, first, long, many, overlap, unseen}
+use Rattle.rules.specs.Values.{told}
+use Rattle.rules.specs.Packed.{comparedNumber}
+use Rattle.rules.specs.Tables.{Table, at}
+use Rattle.rules.specs.declared.Record.{Record}
+use Rattle.rules.specs.declared.Verdict.the-variants.{Equal}
+use Rattle.rules.specs.declared.Refusal.{Refusal}
+use Rattle.rules.specs.declared.Refusal.the-variants.{NoSlot, OneSlot, Full, Long, Many, Overlap, Unseen, Unfit}
+use Rattle.rules.specs.declared.Answer.{Answer}
+use Rattle.rules.specs.declared.Answer.the-variants.{Done, Refused}
+use Rattle.rules.specs.declared.Verdict.{Verdict}
+use Rattle.tables.specs.Gates.{gateCode}
+use Rattle.tables.specs.declared.One.{One}
+use Rattle.tables.specs.declared.Two.{Two}
+
+abbrev pub codeOf : Refusal → ℕ
+codeOf r = 1000 + number r
+
+-- n where the call is accepted
+abbrev pub answerCode : Answer → ℕ → ℕ
+answerCode Done n = n
+answerCode (Refused r) n = codeOf r
+
+-- the record becomes x, or stays
+abbrev pub oneOf : Answer → ℕ → Record → Record → One
+oneOf Done n s x = record { code = n; first = x }
+oneOf (Refused r) n s x = record { code = codeOf r; first = s }
+
+-- the records become x and y, or stay
+abbrev pub twoOf : Answer → ℕ → Record → Record → Record → Record → Two
+twoOf Done n s u x y = record { code = n; first = x; second = y }
+twoOf (Refused r) n s u x y = record { code = codeOf r; first = s; second = u }
+
+-- what is asked of a slot's record first
+abbrev pub slotTests : Record → List (Bool × Refusal) → List (Bool × Refusal)
+slotTests s more = (absent narrow s, NoSlot) ∷ (unlawful narrow s, Unfit) ∷ more
+
+unfoldable pub updateRule : ℕ → Record → One
+updateRule a s = oneOf (first (slotTests s [])) a s (stored narrow (update (held s)))
+
+-- s is slot a's record, u that of slot b, the lowest absent; where there is none, found is 0
+unfoldable pub forkRule : ℕ → ℕ → Record → Record → Two
+forkRule b found s u =
+    twoOf (first (slotTests s ((eqb found 0, Full) ∷ (long narrow (held s), Long) ∷ []))) b s u
+    (stored narrow (fork false (held s)))
+    (stored narrow (fork true (held s)))
+
+-- what is asked of two slots' records before they are joined
+abbrev pub pairTests : ℕ → ℕ → Record → Record → List (Bool × Refusal) → List (Bool × Refusal)
+pairTests a b s u more =
+    (absent narrow s, NoSlot) ∷ (absent narrow u, NoSlot) ∷ (eqb a b, OneSlot) ∷ (unlawful narrow s, Unfit) ∷ (unlawful narrow u, Unfit) ∷ more
+
+-- and what of the stamps that they hold
+abbrev pub meetTests : Record → Record → List (Bool × Refusal)
+meetTests s u =
+    (overlap (held s) (held u), Overlap) ∷ (unseen (held s) (held u), Unseen) ∷ (many narrow (join (held s) (held u)), Many) ∷ []
+
+unfoldable pub joinRule : ℕ → ℕ → Record → Record → Two
+joinRule a b s u =
+    twoOf (first (pairTests a b s u (meetTests s u))) a s u (stored narrow (join (held s) (held u))) (blank narrow)
+
+-- a slot is equal to itself
+unfoldable pub compareRule : ℕ → ℕ → Record → Record → ℕ
+compareRule a b s u =
+    comparedNumber
+    (told
+    (first
+    ((absent narrow s, NoSlot)
+    ∷ (absent narrow u, NoSlot)
+    ∷ (unlawful narrow s, Unfit)
+    ∷ (unlawful narrow u, Unfit)
+    ∷ (not (eqb a b) && overlap (held s) (held u), Overlap)
+    ∷ (not (eqb a b) && unseen (held s) (held u), Unseen)
+    ∷ []))
+    (cond (eqb a b) Equal (compare (held s) (held u))))
+
+-- ---- the rule of fork at two slots of a table, behind the gate
+
+abbrev pub forkCode : Table → ℕ → ℕ → ℕ → ℕ
+forkCode t a b found = cond (eqb (gateCode (length t) a b) 0) (forkRule b found (at t a) (at t b) .code) (gateCode (length t) a b)
+
+abbrev pub forkList : Table → ℕ → ℕ → ℕ → Table
+forkList t a b found =
+    cond (eqb (gateCode (length t) a b) 0) (set (set t a (forkRule b found (at t a) (at t b) .first)) b (forkRule b found (at t a) (at t b) .second)) t

@@ -1,0 +1,581 @@
+// The table of copies: a lent run of records. A function over the run is thin: it asks a gate about numbers alone, hands
+// records by value to a rule that is total, and stores what the rule gives back. A refusing rule gives back what it got.
+// Answers are numbers, as slotNumber, comparedNumber and sparedNumber of the rules say: a refusal is 1,000 plus its number.
+ghost use mathlib.Core.Path.{_≡_};
+ghost use mathlib.Core.List.{[]};
+ghost use Rattle.rules.specs.Limits.{narrow};
+ghost use Rattle.rules.specs.Packed.{comparedNumber};
+ghost use Rattle.rules.specs.Refusals.{number, verdictNumber, first};
+ghost use Rattle.rules.specs.Stored.{sameWords, wordsOf, absent};
+ghost use Rattle.rules.specs.Tables.{slotNumber, sparedNumber, makeFresh, updateAt, forkAt, joinAt, compareAt, spareAt};
+ghost use Rattle.tables.specs.Gates.{gateCode, roomOf, roomCode, freshSlot, zeros};
+ghost use Rattle.tables.specs.Rules.{codeOf, answerCode, twoOf, slotTests, pairTests};
+ghost use Rattle.tables.specs.Rules.{updateRule, forkRule, joinRule, compareRule, forkCode, forkList};
+ghost use Rattle.tables.specs.Scans.{nextOf, obsoleteNumber, spareCode, meetCode, seekOf, weighOf, lookOf, scanOf, seekStart, weighStart};
+use rules::Answer;
+use rules::Compared;
+use rules::Record;
+use rules::Refusal;
+use rules::Verdict;
+use rules::Words;
+
+// A table has at most so many records.
+pub const RECORDS: usize = 32;
+
+// What a rule answers and leaves in one record.
+pub struct One {
+    pub code: u64,
+    pub first: Record,
+}
+
+// What a rule answers and leaves in two records.
+pub struct Two {
+    pub code: u64,
+    pub first: Record,
+    pub second: Record,
+}
+
+// Where a pass over the table stands: what it looks for (0 an absent slot, 1 a copy that makes slot `at` obsolete),
+// slot `at`'s record, the slot that comes next, the slot of the call or the one found, and the answer, 0 while there is none.
+pub struct Scan {
+    pub kind: u64,
+    pub mine: Record,
+    pub next: usize,
+    pub at: usize,
+    pub code: u64,
+}
+
+// A fresh table: [e|e] in slot 0 and nothing else. 0, or 1012.
+pub fn fresh(t: &mut [Record]) -> u64
+    ensures { λ r. ⌜ (r ≡ slotNumber (makeFresh narrow (now (t .entry)) .answer)) × (now (t .exit) ≡ makeFresh narrow (now (t .entry)) .table) ⌝ }
+{
+    let m = room(t.len());
+    let mut i = 0;
+    while i < m {
+        t[i] = fresh_slot(i);
+        i += 1;
+    }
+    room_code(m)
+}
+
+// Slot a's copy was edited.
+pub fn update(t: &mut [Record], a: usize) -> u64
+    ensures { λ r. ⌜ (r ≡ slotNumber (updateAt narrow (now (t .entry)) a .answer)) × (now (t .exit) ≡ updateAt narrow (now (t .entry)) a .table) ⌝ }
+{
+    let g = gate(t.len(), a, a);
+    if g == 0 {
+        let u = update_rule(a, t[a]);
+        t[a] = u.first;
+        return u.code;
+    }
+    g
+}
+
+// A copy of slot a in the lowest absent slot, which the answer names.
+pub fn fork(t: &mut [Record], a: usize) -> u64
+    ensures { λ r. ⌜ (r ≡ slotNumber (forkAt narrow (now (t .entry)) a .answer)) × (now (t .exit) ≡ forkAt narrow (now (t .entry)) a .table) ⌝ }
+{
+    let s = scan_all(t, seek_start(a));
+    fork_at(t, a, s.at, s.code)
+}
+
+// The copies of a and b become one, in slot a.
+pub fn join(t: &mut [Record], a: usize, b: usize) -> u64
+    ensures { λ r. ⌜ (r ≡ slotNumber (joinAt narrow (now (t .entry)) a b .answer)) × (now (t .exit) ≡ joinAt narrow (now (t .entry)) a b .table) ⌝ }
+{
+    let g = gate(t.len(), a, b);
+    if g == 0 {
+        let j = join_rule(a, b, t[a], t[b]);
+        t[a] = j.first;
+        t[b] = j.second;
+        return j.code;
+    }
+    g
+}
+
+// How the copy in slot a stands to that in slot b.
+pub fn compare(t: &[Record], a: usize, b: usize) -> u64
+    ensures { λ r. ⌜ r ≡ comparedNumber (compareAt narrow (now (t .entry)) a b) ⌝ }
+{
+    let g = gate(t.len(), a, b);
+    if g == 0 {
+        return compare_rule(a, b, t[a], t[b]);
+    }
+    g
+}
+
+// Whether slot a's copy is obsolete relative to some other: 0 kept, 1 spare.
+pub fn spare(t: &[Record], a: usize) -> u64
+    ensures { λ r. ⌜ r ≡ sparedNumber (spareAt narrow (now (t .entry)) a) ⌝ }
+{
+    let g = gate(t.len(), a, a);
+    if g == 0 {
+        let s = scan_all(t, weigh_start(a, t[a]));
+        return s.code;
+    }
+    g
+}
+
+// What can be refused without looking at a record: 0, or the refusal.
+fn gate(n: usize, a: usize, b: usize) -> u64
+    ensures { λ r. ⌜ r ≡ gateCode n a b ⌝ }
+{
+    if n == 0 {
+        return 1012;
+    }
+    if RECORDS < n {
+        return 1012;
+    }
+    if n <= a {
+        return 1003;
+    }
+    if n <= b {
+        return 1003;
+    }
+    0
+}
+
+// How many slots of n a fresh table fills: all, or none where the size is refused.
+fn room(n: usize) -> usize
+    ensures { λ r. ⌜ r ≡ roomOf n ⌝ }
+{
+    if RECORDS < n {
+        return 0;
+    }
+    n
+}
+
+// What the making of a fresh table that fills m slots answers.
+fn room_code(m: usize) -> u64
+    ensures { λ r. ⌜ r ≡ roomCode m ⌝ }
+{
+    if m == 0 {
+        return 1012;
+    }
+    0
+}
+
+// What a fresh table has in slot i.
+fn fresh_slot(i: usize) -> Record
+    ensures { λ r. ⌜ r ≡ freshSlot i ⌝ }
+{
+    if i == 0 {
+        return empties(1);
+    }
+    empties(0)
+}
+
+// The rule of update: what slot a answers, and holds afterwards.
+fn update_rule(a: usize, s: Record) -> One
+    ensures { λ d. ⌜ d ≡ updateRule a s ⌝ }
+{
+    if is_absent(s) {
+        return One {
+            code: 1003,
+            first: s,
+        };
+    }
+    if stamps::is_lawful(s) {
+        let g = stamps::update(s);
+        let x = g.stamp;
+        return One {
+            code: a as u64,
+            first: x,
+        };
+    }
+    One {
+        code: 1012,
+        first: s,
+    }
+}
+
+// A copy of slot a in slot b: found is 0 where b is not absent.
+fn fork_at(t: &mut [Record], a: usize, b: usize, found: u64) -> u64
+    ensures { λ r. ⌜ (r ≡ forkCode (now (t .entry)) a b found) × (now (t .exit) ≡ forkList (now (t .entry)) a b found) ⌝ }
+{
+    let g = gate(t.len(), a, b);
+    if g == 0 {
+        let f = fork_rule(b, found, t[a], t[b]);
+        t[a] = f.first;
+        t[b] = f.second;
+        return f.code;
+    }
+    g
+}
+
+// The rule of fork: s is slot a's record, u that of slot b, the lowest absent; found is 0 where none is.
+fn fork_rule(b: usize, found: u64, s: Record, u: Record) -> Two
+    ensures { λ d. ⌜ d ≡ forkRule b found s u ⌝ }
+{
+    if is_absent(s) {
+        return Two {
+            code: 1003,
+            first: s,
+            second: u,
+        };
+    }
+    if !stamps::is_lawful(s) {
+        return Two {
+            code: 1012,
+            first: s,
+            second: u,
+        };
+    }
+    if found == 0 {
+        return Two {
+            code: 1005,
+            first: s,
+            second: u,
+        };
+    }
+    let f = stamps::fork(s);
+    let answer = f.answer;
+    let x = f.zero;
+    let y = f.one;
+    settle_two(answer, b, s, u, x, y)
+}
+
+// The rule of join: s and u are the records of slots a and b, of which b's becomes absent.
+fn join_rule(a: usize, b: usize, s: Record, u: Record) -> Two
+    ensures { λ d. ⌜ d ≡ joinRule a b s u ⌝ }
+{
+    let code = pair_code(a, b, s, u);
+    if code != 0 {
+        return Two {
+            code: code,
+            first: s,
+            second: u,
+        };
+    }
+    let g = joins::join(s, u);
+    let answer = g.answer;
+    let x = g.stamp;
+    let none = empties(0);
+    settle_two(answer, a, s, u, x, none)
+}
+
+// What is asked of two slots' records before they are joined: 0, or the refusal.
+fn pair_code(a: usize, b: usize, s: Record, u: Record) -> u64
+    ensures { λ n. ⌜ n ≡ answerCode (first (pairTests a b s u [])) 0 ⌝ }
+{
+    if is_absent(s) {
+        return 1003;
+    }
+    if is_absent(u) {
+        return 1003;
+    }
+    if a == b {
+        return 1004;
+    }
+    if !stamps::is_lawful(s) {
+        return 1012;
+    }
+    if !stamps::is_lawful(u) {
+        return 1012;
+    }
+    0
+}
+
+// The rule of compare: a slot is equal to itself.
+fn compare_rule(a: usize, b: usize, s: Record, u: Record) -> u64
+    ensures { λ n. ⌜ n ≡ compareRule a b s u ⌝ }
+{
+    if is_absent(s) {
+        return 1003;
+    }
+    if is_absent(u) {
+        return 1003;
+    }
+    if !stamps::is_lawful(s) {
+        return 1012;
+    }
+    if !stamps::is_lawful(u) {
+        return 1012;
+    }
+    if a == b {
+        return 0;
+    }
+    compared_code(stamps::compare(s, u))
+}
+
+// One pass over the table.
+fn scan_all(t: &[Record], start: Scan) -> Scan
+    ensures { λ r. ⌜ r ≡ scanOf start (now (t .entry)) ⌝ }
+{
+    let mut acc = start;
+    let mut i = 0;
+    while i < t.len() {
+        acc = look(acc, t[i]);
+        i += 1;
+    }
+    acc
+}
+
+// Before the first slot, in search of an absent one; a is the slot of the call.
+fn seek_start(a: usize) -> Scan
+    ensures { λ s. ⌜ s ≡ seekStart a ⌝ }
+{
+    let none = empties(0);
+    Scan {
+        kind: 0,
+        mine: none,
+        next: 0,
+        at: a,
+        code: 0,
+    }
+}
+
+// Before the first slot, in search of a copy that makes slot a obsolete, whose record is r.
+fn weigh_start(a: usize, r: Record) -> Scan
+    ensures { λ s. ⌜ s ≡ weighStart a r ⌝ }
+{
+    let code = slot_code(r);
+    Scan {
+        kind: 1,
+        mine: r,
+        next: 0,
+        at: a,
+        code: code,
+    }
+}
+
+// What is asked of a slot's record first: 0, or the refusal.
+fn slot_code(r: Record) -> u64
+    ensures { λ n. ⌜ n ≡ answerCode (first (slotTests r [])) 0 ⌝ }
+{
+    if is_absent(r) {
+        return 1003;
+    }
+    if stamps::is_lawful(r) {
+        return 0;
+    }
+    1012
+}
+
+// What one slot does to where the pass stands: an answer that is found stays.
+fn look(s: Scan, r: Record) -> Scan
+    ensures { λ x. ⌜ x ≡ lookOf s r ⌝ }
+{
+    let found = s.code;
+    let kind = s.kind;
+    if found != 0 {
+        return s;
+    }
+    if kind == 0 {
+        return seek(s, r);
+    }
+    weigh(s, r)
+}
+
+// A slot that is looked at for an absent one.
+fn seek(s: Scan, r: Record) -> Scan
+    ensures { λ x. ⌜ x ≡ seekOf s r ⌝ }
+{
+    let kind = s.kind;
+    let mine = s.mine;
+    let here = s.next;
+    let at = s.at;
+    let code = s.code;
+    let next = after(here);
+    if is_absent(r) {
+        return Scan {
+            kind: kind,
+            mine: mine,
+            next: next,
+            at: here,
+            code: 1,
+        };
+    }
+    Scan {
+        kind: kind,
+        mine: mine,
+        next: next,
+        at: at,
+        code: code,
+    }
+}
+
+// A slot that is looked at for a copy that makes slot `at` obsolete.
+fn weigh(s: Scan, r: Record) -> Scan
+    ensures { λ x. ⌜ x ≡ weighOf s r ⌝ }
+{
+    let kind = s.kind;
+    let mine = s.mine;
+    let here = s.next;
+    let at = s.at;
+    let next = after(here);
+    if at == here {
+        return Scan {
+            kind: kind,
+            mine: mine,
+            next: next,
+            at: at,
+            code: 0,
+        };
+    }
+    if is_absent(r) {
+        return Scan {
+            kind: kind,
+            mine: mine,
+            next: next,
+            at: at,
+            code: 0,
+        };
+    }
+    let code = meet_code(mine, r);
+    Scan {
+        kind: kind,
+        mine: mine,
+        next: next,
+        at: at,
+        code: code,
+    }
+}
+
+// What m is told beside r: 1 where it may go, 0 where it is kept, or the refusal.
+fn meet_code(m: Record, r: Record) -> u64
+    ensures { λ n. ⌜ n ≡ meetCode m r ⌝ }
+{
+    if stamps::is_lawful(r) {
+        return spare_code(stamps::compare(m, r));
+    }
+    1012
+}
+
+// The slot after n, as far as a table goes.
+fn after(n: usize) -> usize
+    ensures { λ r. ⌜ r ≡ nextOf n ⌝ }
+{
+    if n < RECORDS {
+        return n + 1;
+    }
+    n
+}
+
+// The records p and q become x and y, or stay on a refusal.
+fn settle_two(answer: Answer, n: usize, p: Record, q: Record, x: Record, y: Record) -> Two
+    ensures { λ d. ⌜ d ≡ twoOf answer n p q x y ⌝ }
+{
+    match answer {
+        Answer::Done => Two {
+            code: n as u64,
+            first: x,
+            second: y,
+        },
+        Answer::Refused(r) => Two {
+            code: refusal_code(r),
+            first: p,
+            second: q,
+        },
+    }
+}
+
+// A refusal as an answer: 1,000 and its number.
+fn refusal_code(r: Refusal) -> u64
+    ensures { λ n. ⌜ n ≡ codeOf r ⌝ }
+{
+    1000 + refusal_number(r)
+}
+
+// A refusal's number.
+fn refusal_number(r: Refusal) -> u64
+    ensures { λ n. ⌜ n ≡ number r ⌝ }
+{
+    match r {
+        Refusal::Malformed => 1,
+        Refusal::Unlawful => 2,
+        Refusal::NoSlot => 3,
+        Refusal::OneSlot => 4,
+        Refusal::Full => 5,
+        Refusal::Long => 6,
+        Refusal::Many => 7,
+        Refusal::Overlap => 8,
+        Refusal::Unseen => 9,
+        Refusal::Short => 10,
+        Refusal::Unread => 11,
+        Refusal::Unfit => 12,
+        Refusal::Ended => 13,
+    }
+}
+
+// What a comparison says, as a number.
+fn compared_code(c: Compared) -> u64
+    ensures { λ n. ⌜ n ≡ comparedNumber c ⌝ }
+{
+    match c {
+        Compared::Is(v) => verdict_code(v),
+        Compared::Refused(r) => refusal_code(r),
+    }
+}
+
+// A verdict's number.
+fn verdict_code(v: Verdict) -> u64
+    ensures { λ n. ⌜ n ≡ verdictNumber v ⌝ }
+{
+    match v {
+        Verdict::Equal => 0,
+        Verdict::Obsolete => 1,
+        Verdict::Newer => 2,
+        Verdict::Conflict => 3,
+    }
+}
+
+// 1 where the comparison lets the first go, 0 where it keeps it.
+fn spare_code(c: Compared) -> u64
+    ensures { λ n. ⌜ n ≡ spareCode c ⌝ }
+{
+    match c {
+        Compared::Is(v) => is_obsolete(v),
+        Compared::Refused(r) => refusal_code(r),
+    }
+}
+
+// 1 where the first is obsolete, else 0.
+fn is_obsolete(v: Verdict) -> u64
+    ensures { λ n. ⌜ n ≡ obsoleteNumber v ⌝ }
+{
+    match v {
+        Verdict::Equal => 0,
+        Verdict::Obsolete => 1,
+        Verdict::Newer => 0,
+        Verdict::Conflict => 0,
+    }
+}
+
+// Whether there is no copy in the record.
+fn is_absent(r: Record) -> bool
+    ensures { λ b. ⌜ b ≡ absent narrow r ⌝ }
+{
+    let u = r.update;
+    let i = r.id;
+    if is_zeros(u) {
+        return is_zeros(i);
+    }
+    false
+}
+
+// Whether the name's record is all zeros.
+fn is_zeros(n: Words) -> bool
+    ensures { λ r. ⌜ r ≡ sameWords n (wordsOf narrow []) ⌝ }
+{
+    if n.count != 0 {
+        return false;
+    }
+    let mut i = 0;
+    while i < 16 {
+        if n.words[i] != 0 {
+            return false;
+        }
+        i += 1;
+    }
+    true
+}
+
+// The record whose two names have c strings, each of them empty.
+fn empties(c: usize) -> Record
+    ensures { λ r. ⌜ r ≡ zeros c ⌝ }
+{
+    let w = [0; 16];
+    let n = Words { count: c, words: w };
+    Record { update: n, id: n }
+}
