@@ -5,13 +5,15 @@ ghost use mathlib.Core.Path.{_≡_};
 ghost use mathlib.Core.List.{[]};
 ghost use Rattle.rules.specs.Limits.{narrow};
 ghost use Rattle.rules.specs.Packed.{comparedNumber};
-ghost use Rattle.rules.specs.Refusals.{number, verdictNumber, first};
+ghost use Rattle.rules.specs.Refusals.{first};
 ghost use Rattle.rules.specs.Stored.{sameWords, wordsOf, absent};
 ghost use Rattle.rules.specs.Tables.{slotNumber, sparedNumber, makeFresh, updateAt, forkAt, joinAt, compareAt, spareAt};
 ghost use Rattle.tables.specs.Gates.{gateCode, roomOf, roomCode, freshSlot, zeros};
 ghost use Rattle.tables.specs.Rules.{codeOf, answerCode, twoOf, slotTests, pairTests};
 ghost use Rattle.tables.specs.Rules.{updateRule, forkRule, joinRule, compareRule, forkCode, forkList};
 ghost use Rattle.tables.specs.Scans.{nextOf, obsoleteNumber, spareCode, meetCode, seekOf, weighOf, lookOf, scanOf, seekStart, weighStart};
+use answers::compared_code;
+use answers::refusal_code;
 use rules::Answer;
 use rules::Compared;
 use rules::Record;
@@ -467,56 +469,6 @@ fn settle_two(answer: Answer, n: usize, p: Record, q: Record, x: Record, y: Reco
             first: p,
             second: q,
         },
-    }
-}
-
-// A refusal as an answer: 1,000 and its number.
-fn refusal_code(r: Refusal) -> u64
-    ensures { λ n. ⌜ n ≡ codeOf r ⌝ }
-{
-    1000 + refusal_number(r)
-}
-
-// A refusal's number.
-fn refusal_number(r: Refusal) -> u64
-    ensures { λ n. ⌜ n ≡ number r ⌝ }
-{
-    match r {
-        Refusal::Malformed => 1,
-        Refusal::Unlawful => 2,
-        Refusal::NoSlot => 3,
-        Refusal::OneSlot => 4,
-        Refusal::Full => 5,
-        Refusal::Long => 6,
-        Refusal::Many => 7,
-        Refusal::Overlap => 8,
-        Refusal::Unseen => 9,
-        Refusal::Short => 10,
-        Refusal::Unread => 11,
-        Refusal::Unfit => 12,
-        Refusal::Ended => 13,
-    }
-}
-
-// What a comparison says, as a number.
-fn compared_code(c: Compared) -> u64
-    ensures { λ n. ⌜ n ≡ comparedNumber c ⌝ }
-{
-    match c {
-        Compared::Is(v) => verdict_code(v),
-        Compared::Refused(r) => refusal_code(r),
-    }
-}
-
-// A verdict's number.
-fn verdict_code(v: Verdict) -> u64
-    ensures { λ n. ⌜ n ≡ verdictNumber v ⌝ }
-{
-    match v {
-        Verdict::Equal => 0,
-        Verdict::Obsolete => 1,
-        Verdict::Newer => 2,
-        Verdict::Conflict => 3,
     }
 }
 

@@ -15,7 +15,7 @@ use Rattle.tables.proofs.compare_rule.Reads as reads
 use Rattle.tables.proofs.compare_rule.Lts as lts
 use Rattle.stamps.proofs.compare.Reads as compare-reads
 use Rattle.stamps.proofs.is_lawful.Reads as is-lawful-reads
-use Rattle.tables.proofs.compared_code.Reads as compared-code-reads
+use Rattle.answers.proofs.compared_code.Reads as compared-code-reads
 use Rattle.tables.proofs.is_absent.Reads as is-absent-reads
 
 is-absent-requires : tie.Need-is-absent-requires

@@ -8,7 +8,7 @@ use Rattle.tables.proofs.settle_two.Statement.{statement}
 use Rattle.tables.proofs.settle_two.Tie as tie
 use Rattle.tables.proofs.settle_two.Reads as reads
 use Rattle.tables.proofs.settle_two.Lts as lts
-use Rattle.tables.proofs.refusal_code.Reads as refusal-code-reads
+use Rattle.answers.proofs.refusal_code.Reads as refusal-code-reads
 
 -- src/lib.rt:229:37
 enum-told : tie.Need-enum-told

@@ -7,7 +7,7 @@ use Rattle.tables.proofs.spare_code.Tie as tie
 use Rattle.tables.proofs.spare_code.Reads as reads
 use Rattle.tables.proofs.spare_code.Lts as lts
 use Rattle.tables.proofs.is_obsolete.Reads as is-obsolete-reads
-use Rattle.tables.proofs.refusal_code.Reads as refusal-code-reads
+use Rattle.answers.proofs.refusal_code.Reads as refusal-code-reads
 
 -- src/lib.rt:197:22
 enum-known-c : tie.Need-enum-known-c
