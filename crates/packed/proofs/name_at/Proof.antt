@@ -269,7 +269,7 @@ loop-again c =
       search needs,
       omega arith,
       stepped (l .loop .inv .2) _ _ _ _ (omega arith) (omega arith) (t .string-at2 .ensures)
-      (not-false _ (c .before .before .if3 .left)) (sym (c .before .comes-before .ensures) ∙ not-false _ (c .if4 .left)),
+          (not-false _ (c .before .before .if3 .left)) (sym (c .before .comes-before .ensures) ∙ not-false _ (c .if4 .left)),
     )
 
 returns-5 : tie.Need-returns-5 Inv-loop μ-loop
