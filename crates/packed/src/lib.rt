@@ -242,6 +242,7 @@ fn bits_at(b: &[u8], pos: usize, w: usize) -> u64
     acc
 }
 
+// The lesser of a and b.
 fn least(a: usize, b: usize) -> usize
     ensures { λ r. ⌜ r ≡ min a b ⌝ }
 {
@@ -251,6 +252,7 @@ fn least(a: usize, b: usize) -> usize
     b
 }
 
+// A byte as a word.
 fn wide(x: u8) -> u64
     ensures { λ r. ⌜ r ≡ x ⌝ }
 {

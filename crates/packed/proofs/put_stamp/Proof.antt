@@ -5,6 +5,7 @@ use mathlib.Core.Bool.{true}
 use mathlib.Core.List.{List, [], _∷_, _++_, append-nil}
 use Prim.Native.Nat.{ℕ, zero, suc, _-_, _%_, _<_}
 use native.Mathlib.Omega.{arith}
+use borrow.Author.Needs.{needs}
 use borrow.Author.Tests.{eq-eqb}
 use lib.Dec.{ltb}
 use lib.Pow.{pow-pos}
@@ -23,7 +24,6 @@ use Rattle.stamps.proofs.Laws.{stored-names}
 use Rattle.packed.specs.Cursors.{Put}
 use Rattle.packed.specs.declared.Pen.{Pen}
 use Rattle.packed.proofs.Laws.{put-on, filling-value, bytes-are, record-length}
-use borrow.Author.Needs.{needs}
 use Rattle.packed.proofs.put_stamp.Statement.{statement}
 use Rattle.packed.proofs.put_stamp.Tie as tie
 

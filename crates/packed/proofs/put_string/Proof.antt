@@ -4,13 +4,13 @@ use mathlib.Core.Bool.{Bool}
 use mathlib.Core.List.{List, _++_}
 use Prim.Native.Nat.{ℕ, _+_, _*_, _-_, _/_, _%_, _^_, _≤_, _<_}
 use native.Mathlib.Omega.{arith}
+use borrow.Author.Needs.{needs}
 use lib.Pow.{pow-mono, shl-exact, shr-lt, shr-shr}
 use Rattle.rules.specs.Limits.{narrow}
 use Rattle.rules.specs.Strings.{field, strOf}
 use Rattle.rules.specs.Packed.{stringBits}
 use Rattle.laws.proofs.Words.{str-length, str-top}
 use Rattle.packed.proofs.Laws.{join-lt, field-join, string-length}
-use borrow.Author.Needs.{needs}
 use Rattle.packed.proofs.put_string.Statement.{statement}
 use Rattle.packed.proofs.put_string.Tie as tie
 

@@ -4,6 +4,7 @@ use mathlib.Core.Bool.{true, false}
 use mathlib.Core.List.{List}
 use Prim.Native.Nat.{ℕ, _≤_, _<_}
 use native.Mathlib.Omega.{arith}
+use borrow.Author.Needs.{needs}
 use borrow.Author.Tests.{lt-ltb, le-ltb, not-true, not-false}
 use lib.ListN.{length}
 use Rattle.rules.specs.Limits.{narrow}
@@ -13,7 +14,6 @@ use Rattle.rules.specs.Packed.{Wrote, packed, over, wrote, writtenStamp}
 use Rattle.rules.specs.declared.Record.{Record}
 use Rattle.rules.specs.declared.Refusal.the-variants.{Unlawful, Short}
 use Rattle.rules.specs.declared.Written.the-variants.{Bytes, Refused as NotWritten}
-use borrow.Author.Needs.{needs}
 use Rattle.packed.proofs.write.Statement.{statement}
 use Rattle.packed.proofs.write.Tie as tie
 
