@@ -15,17 +15,7 @@ use Rattle.rules.specs.Stamps.{Stamp, start}
 use Rattle.laws.proofs.Tests.{In, in-left, in-right, in-append}
 use Rattle.laws.proofs.Below.{covered-some, some-covered, in-covered, covered-down, below-refl}
 use Rattle.laws.proofs.Steps.{Proper}
-
--- one slot for each number; what an absent slot holds makes no difference
-pub record Config : Type 0 where
-  pub present : ℕ → Bool
-  pub stamp : ℕ → Stamp
-  pub events : ℕ → List ℕ
-  pub next : ℕ
-
--- f with v in slot a
-abbrev pub put : {A : Type 0} → ℕ → A → (ℕ → A) → ℕ → A
-put a v f x = cond (eqb x a) v (f x)
+use Rattle.histories.specs.Configurations.{AllPresent, Among, Config, Covers, Seen, Sound, Under, Within, initial, restricted}
 
 -- slot x is slot a, or another
 pub data Where (a x : ℕ) : Type 0 where
@@ -39,49 +29,9 @@ is-where a x = by (eqb x a) refl
     by true e = here (eqb-true x a e) e
     by false e = there (eqb-false x a e) e
 
--- some slot of S passes
-pub record Among (S : List ℕ) (P : ℕ → Type 0) : Type 0 where
-  pub slot : ℕ
-  pub inside : In slot S
-  pub holds : P slot
-
 -- and what passes one test there passes another
 pub among : {S : List ℕ} {P Q : ℕ → Type 0} → ((b : ℕ) → In b S → P b → Q b) → Among S P → Among S Q
 among f a = record { slot = a .slot; inside = a .inside; holds = f (a .slot) (a .inside) (a .holds) }
-
--- some copy of S has seen event e
-abbrev pub Seen : Config → List ℕ → ℕ → Type 0
-Seen C S e = Among S (λ b. In e (C .events b))
-
--- some copy of S has an update name that covers r: so does the union of all of theirs
-abbrev pub Covers : Config → List ℕ → Str → Type 0
-Covers C S r = Among S (λ b. covered r (C .stamp b .update) ≡ true)
-
-abbrev pub AllPresent : Config → List ℕ → Type 0
-AllPresent C S = (b : ℕ) → In b S → C .present b ≡ true
-
--- x's events lie within those of S
-abbrev pub Within : Config → ℕ → List ℕ → Type 0
-Within C x S = (e : ℕ) → In e (C .events x) → Seen C S e
-
--- x's update name is below the union of those of S
-abbrev pub Under : Config → ℕ → List ℕ → Type 0
-Under C x S = (r : Str) → In r (C .stamp x .update) → Covers C S r
-
-pub record Sound (C : Config) : Type 0 where
-  -- Invariant 4.4, and that both are names
-  pub proper : (a : ℕ) → C .present a ≡ true → Proper (C .stamp a)
-  pub nonempty : (a : ℕ) → C .present a ≡ true → (s : Str) × In s (C .stamp a .update)
-  -- Invariant 4.5
-  pub apart : (a b : ℕ) (s t : Str) → C .present a ≡ true → C .present b ≡ true → In s (C .stamp a .id) → In t (C .stamp b .id)
-      → prefix s t ≡ true → (a ≡ b) × (s ≡ t)
-  -- Invariant 4.6
-  pub seen : (a b : ℕ) (r : Str) → C .present a ≡ true → C .present b ≡ true → In r (C .stamp a .update) → covered r (C .stamp b .id) ≡ true
-      → covered r (C .stamp b .update) ≡ true
-  pub fresh : (a e : ℕ) → C .present a ≡ true → In e (C .events a) → e < C .next
-  -- Proposition 5.1, one field for each direction
-  pub known : (x : ℕ) (S : List ℕ) → C .present x ≡ true → AllPresent C S → 1 ≤ length S → Within C x S → Under C x S
-  pub shown : (x : ℕ) (S : List ℕ) → C .present x ≡ true → AllPresent C S → 1 ≤ length S → Under C x S → Within C x S
 
 -- ---- copies that moved: each slot of D holds what some slots of C held, taken together
 
@@ -97,18 +47,18 @@ pub record Reads (C D : Config) (old : ℕ → List ℕ) : Type 0 where
 pub in-one : {A : Type 0} (x y : A) → In y (x ∷ []) → y ≡ x
 in-one x y i = ⊎-elim (λ e. e) (λ h. absurd h) i
 
--- the old slots of a list of slots
-gather : (ℕ → List ℕ) → List ℕ → List ℕ
+-- the lists of some slots, one after the other: of old slots, or of events
+unfoldable pub gather : (ℕ → List ℕ) → List ℕ → List ℕ
 gather old [] = []
 gather old (x ∷ S) = old x ++ gather old S
 
-in-gather : (old : ℕ → List ℕ) (S : List ℕ) (x y : ℕ) → In x S → In y (old x) → In y (gather old S)
+pub in-gather : (old : ℕ → List ℕ) (S : List ℕ) (x y : ℕ) → In x S → In y (old x) → In y (gather old S)
 unfolding gather
 in-gather old [] x y i j = absurd i
 in-gather old (z ∷ S) x y i j =
     ⊎-elim (λ e. in-left y (old z) (gather old S) (subst (λ (w : ℕ). In y (old w)) e j)) (λ h. in-right y (old z) (gather old S) (in-gather old S x y h j)) i
 
-gather-in : (old : ℕ → List ℕ) (S : List ℕ) (y : ℕ) → In y (gather old S) → Among S (λ x. In y (old x))
+pub gather-in : (old : ℕ → List ℕ) (S : List ℕ) (y : ℕ) → In y (gather old S) → Among S (λ x. In y (old x))
 unfolding gather
 gather-in old [] y i = absurd i
 gather-in old (z ∷ S) y i =
@@ -246,18 +196,10 @@ sound-same C D f g h n =
     sound-part C D
     (record { slots = λ x p. sym (f x) ∙ p; stamps = λ x p. g x (sym (f x) ∙ p); sets = λ x p. h x (sym (f x) ∙ p); next = n })
 
--- a configuration with fewer slots
-abbrev pub restricted : (ℕ → Bool) → Config → Config
-restricted p C = record { present = p; stamp = C .stamp; events = C .events; next = C .next }
-
 pub sound-restrict : (C : Config) (p : ℕ → Bool) → ((x : ℕ) → p x ≡ true → C .present x ≡ true) → Sound C → Sound (restricted p C)
 sound-restrict C p f = sound-part C (restricted p C) (record { slots = f; stamps = λ x i. refl; sets = λ x i. refl; next = refl })
 
 -- ---- the first configuration
-
--- [e|e] in slot 0, and no events
-abbrev pub initial : Config
-initial = record { present = λ x. eqb x 0; stamp = λ x. start; events = λ x. []; next = 0 }
 
 pub sound-start : Sound initial
 unfolding rising all

@@ -13,16 +13,8 @@ use Rattle.laws.proofs.Prefix.{prefix-trans, prefix-grown, prefix-of-grown, gro
 use Rattle.laws.proofs.Below.{covered-some, below-each}
 use Rattle.laws.proofs.Fork.{grown-is, Grown, append-in, append-rising, covered-append, below-append}
 use Rattle.laws.proofs.Steps.{Proper}
-use Rattle.histories.proofs.Config.{Config, put, Where, here, there, is-where, Sound, Reads, Moved, moved-reads, reads-nonempty, reads-fresh, reads-known, reads-shown}
-
--- slot a forked, with the 1 branch in slot b
-abbrev pub forked : ℕ → ℕ → Config → Config
-forked a b C = record {
-  present = put b true (C .present);
-  stamp = put b (fork true (C .stamp a)) (put a (fork false (C .stamp a)) (C .stamp));
-  events = put b (C .events a) (C .events);
-  next = C .next;
-}
+use Rattle.histories.specs.Configurations.{Config, Sound, forked, put}
+use Rattle.histories.proofs.Config.{Where, here, there, is-where, Reads, Moved, moved-reads, reads-nonempty, reads-fresh, reads-known, reads-shown}
 
 -- a string and the one that it was grown from
 root-prefix : (d : Bool) (i : Name) (x : Str) (g : Grown d i x) → prefix (g .root) x ≡ true

@@ -10,18 +10,10 @@ use Rattle.rules.specs.Stamps.{Stamp, settled, unite, join}
 use Rattle.laws.proofs.Tests.{In}
 use Rattle.laws.proofs.Steps.{Proper}
 use Rattle.laws.proofs.Reduce.{reduce-keeps}
-use Rattle.histories.proofs.Config.{Config, put, Where, here, there, is-where, Sound, sound-same}
+use Rattle.histories.specs.Configurations.{Config, Sound, joined, put, settledAt}
+use Rattle.histories.proofs.Config.{Where, here, there, is-where, sound-same}
 use Rattle.histories.proofs.Unite.{unite-sound}
-use Rattle.histories.proofs.Settle.{settledAt, settle-sound}
-
--- slots a and b joined in slot a
-abbrev pub joined : ℕ → ℕ → Config → Config
-joined a b C = record {
-  present = put b false (C .present);
-  stamp = put a (join (C .stamp a) (C .stamp b)) (C .stamp);
-  events = put a (C .events a ++ C .events b) (C .events);
-  next = C .next;
-}
+use Rattle.histories.proofs.Settle.{settle-sound}
 
 module _ (C : Config) (q : Sound C) (a b : ℕ) (pa : C .present a ≡ true) (pb : C .present b ≡ true) (n : a ≡ b → ⊥) where
   -- the configuration on the way, with x in slot a

@@ -15,11 +15,8 @@ use Rattle.laws.proofs.Rising.{rising-antichain}
 use Rattle.laws.proofs.Below.{covered-some, some-covered, in-covered, covered-down, covered-below}
 use Rattle.laws.proofs.Settle.{Other, Way, holds, lacks, way, settle-in, in-settle}
 use Rattle.laws.proofs.Steps.{Proper, settle-covered, covered-settle, covered-settle-update, settled-proper}
-use Rattle.histories.proofs.Config.{Config, put, Where, here, there, is-where, among, Covers, AllPresent, Within, Under, Sound}
-
--- one step of reduction in slot c
-abbrev pub settledAt : ℕ → Str → Config → Config
-settledAt c s C = record { present = C .present; stamp = put c (settled s (C .stamp c)) (C .stamp); events = C .events; next = C .next }
+use Rattle.histories.specs.Configurations.{AllPresent, Config, Covers, Sound, Under, Within, put, settledAt}
+use Rattle.histories.proofs.Config.{Where, here, there, is-where, among}
 
 module _ (C : Config) (q : Sound C) (c : ℕ) (pc : C .present c ≡ true) (s : Str) (zero-in : In (s ▹ false) (C .stamp c .id))
     (one-in : In (s ▹ true) (C .stamp c .id)) where

@@ -13,16 +13,8 @@ use Rattle.laws.proofs.Tests.{no, or-left, or-right, In, in-left, in-right, in-
 use Rattle.laws.proofs.Below.{covered-some, some-covered, in-covered}
 use Rattle.laws.proofs.Union.{union-top, union-rising, covered-union, union-mono}
 use Rattle.laws.proofs.Steps.{Proper}
-use Rattle.histories.proofs.Config.{Config, put, Where, here, there, is-where, Among, Sound, Reads, in-one, covered-on, reads-nonempty, reads-fresh, reads-known, reads-shown}
-
--- slots a and b united in slot a
-abbrev pub united : ℕ → ℕ → Config → Config
-united a b C = record {
-  present = put b false (C .present);
-  stamp = put a (unite (C .stamp a) (C .stamp b)) (C .stamp);
-  events = put a (C .events a ++ C .events b) (C .events);
-  next = C .next;
-}
+use Rattle.histories.specs.Configurations.{Among, Config, Sound, put, united}
+use Rattle.histories.proofs.Config.{Where, here, there, is-where, Reads, in-one, covered-on, reads-nonempty, reads-fresh, reads-known, reads-shown}
 
 in-two : {A : Type 0} (x y z : A) → In z (x ∷ y ∷ []) → (z ≡ x) ⊎ (z ≡ y)
 in-two x y z i = ⊎-elim (λ e. inl e) (λ h. inr (in-one y z h)) i

@@ -13,16 +13,8 @@ use Rattle.rules.specs.Stamps.{update}
 use Rattle.laws.proofs.Tests.{In}
 use Rattle.laws.proofs.Below.{covered-some, in-covered, covered-below, below-each, below-refl}
 use Rattle.laws.proofs.Steps.{Proper}
-use Rattle.histories.proofs.Config.{Config, put, Where, here, there, is-where, among, Seen, Covers, AllPresent, Within, Under, Sound}
-
--- slot a after an update, with the next event
-abbrev pub updated : ℕ → Config → Config
-updated a C = record {
-  present = C .present;
-  stamp = put a (update (C .stamp a)) (C .stamp);
-  events = put a (C .next ∷ C .events a) (C .events);
-  next = suc (C .next);
-}
+use Rattle.histories.specs.Configurations.{AllPresent, Config, Covers, Seen, Sound, Under, Within, put, updated}
+use Rattle.histories.proofs.Config.{Where, here, there, is-where, among}
 
 module _ (C : Config) (q : Sound C) (a : ℕ) (pa : C .present a ≡ true) where
   abbrev D : Config
