@@ -30,40 +30,56 @@ typedef struct {
 
 /* ---- a pool of stamps that side by side make up a whole: forks and joins by the second implementation */
 
-static bytes pool[POOL];
-static size_t copies;
+static bytes pool[POOL], before[POOL];
+static size_t copies, copies_before, most_copies, edits, joins;
 
+/* A new pool, with a temper of its own: how many copies, how many edits and joins among the steps. */
 static void start_pool(void) {
     memset(pool, 0, sizeof pool);
     copies = 1;
     pool[0].len = 3;
+    most_copies = 2 + below(below(2) ? 4 : POOL - 2);
+    edits = below(4);
+    joins = 1 + below(6);
+    memcpy(before, pool, sizeof pool);
+    copies_before = copies;
+}
+
+static void forked(size_t a) {
+    bytes x, y;
+    if (copies == most_copies) return;
+    x.len = (size_t)second_fork(pool[a].b, pool[a].len, x.b, BUFFER, y.b, BUFFER);
+    if (x.len >= 1000) return;
+    y.len = x.len;
+    pool[a] = x;
+    pool[copies++] = y;
+}
+
+static void joined(size_t a, size_t b) {
+    bytes x;
+    if (a == b) return;
+    x.len = (size_t)second_join(pool[a].b, pool[a].len, pool[b].b, pool[b].len, x.b, BUFFER);
+    if (x.len >= 1000) return;
+    pool[a] = x;
+    pool[b] = pool[--copies];
 }
 
 static void evolve(void) {
-    bytes x, y;
-    size_t a = below(copies);
-    switch (below(4)) {
-    case 0:
+    bytes x;
+    size_t a = below(copies), step = below(4 + edits + joins);
+    if (step < 4) forked(a);
+    else if (step < 4 + edits) {
         x.len = (size_t)second_update(pool[a].b, pool[a].len, x.b, BUFFER);
         if (x.len < 1000) pool[a] = x;
-        return;
-    case 1:
-    case 2:
-        if (copies == POOL) return;
-        x.len = (size_t)second_fork(pool[a].b, pool[a].len, x.b, BUFFER, y.b, BUFFER);
-        if (x.len >= 1000) return;
-        y.len = x.len;
-        pool[a] = x;
-        pool[copies++] = y;
-        return;
-    default:
-        if (copies == 1) return;
-        size_t b = below(copies);
-        if (a == b) return;
-        x.len = (size_t)second_join(pool[a].b, pool[a].len, pool[b].b, pool[b].len, x.b, BUFFER);
-        if (x.len >= 1000) return;
-        pool[a] = x;
-        pool[b] = pool[--copies];
+    } else if (step % 2) joined(a, below(copies));
+    else {
+        size_t was = copies;
+        joined(a, below(copies));
+        if (copies < was && a < copies) forked(a);
+    }
+    if (below(16) == 0) {
+        memcpy(before, pool, sizeof pool);
+        copies_before = copies;
     }
 }
 
@@ -132,14 +148,15 @@ static void damage(bytes *x) {
 
 static void any_stamp(bytes *x) {
     size_t kind = below(16);
-    if (kind < 9) *x = pool[below(copies)];
+    if (kind < 8) *x = pool[below(copies)];
+    else if (kind < 10) *x = before[below(copies_before)];
     else if (kind < 12) some_fields(x);
     else if (kind < 14) large(x);
     else {
         x->len = below(BUFFER);
         for (size_t k = 0; k < x->len; k++) x->b[k] = (uint8_t)(below(3) ? next() : 0);
     }
-    if (below(4) == 0) damage(x);
+    if (below(5) == 0) damage(x);
 }
 
 /* ---- buffers with guards */
@@ -236,7 +253,7 @@ int main(int argc, char **argv) {
     start_pool();
     largest();
     for (uint64_t k = 0; k < rounds; k++) {
-        if (k % 4096 == 0) start_pool();
+        if (k % 64 == 0) start_pool();
         for (int j = 0; j < 3; j++) evolve();
         one_round();
     }
