@@ -1,10 +1,8 @@
 -- Below is an order on names, and a question about down-sets: m is below n exactly when whatever m covers, n covers. Assumes nothing.
-use mathlib.Core.Path.{_≡_, refl, sym, ap, _∙_, subst}
-use mathlib.Core.Bool.{Bool, true, false}
-use mathlib.Core.List.{List, [], _∷_}
-use mathlib.Core.Logic.{_⊎_, inl, inr, ⊎-elim}
+use mathlib.Core.Path.{_≡_, refl, sym, subst}
+use mathlib.Core.Bool.{true}
 use Rattle.rules.specs.Strings.{Str, prefix, same}
-use Rattle.rules.specs.Names.{Name, any, all, member, rising, covered, below}
+use Rattle.rules.specs.Names.{Name, member, rising, covered, below}
 use Rattle.laws.proofs.Tests.{In, Some, any-some, some-any, all-each, each-all}
 use Rattle.laws.proofs.Prefix.{prefix-refl, prefix-trans, prefix-antisym, same-is, is-same}
 use Rattle.laws.proofs.Rising.{rising-antichain, rising-unique}

@@ -2,13 +2,13 @@
 -- Assumes nothing.
 use mathlib.Core.Path.{_≡_, refl, sym, ap, ap₂, _∙_}
 use mathlib.Core.Bool.{Bool, true, false}
-use mathlib.Core.List.{List, [], _∷_, _++_, append-assoc}
+use mathlib.Core.List.{List, [], _∷_, _++_}
 use Prim.Native.Nat.{ℕ, zero, suc, _+_, _*_, _-_, _/_, _%_, _^_, _≤_, _<_}
-use native.Mathlib.Nat.{mod-lt, pow-suc, le-of-suc-le-suc, not-suc-le-zero, mul-assoc, mul-comm, add-mul, mod-eq-of-lt, mul-le-mul-right, zero-div}
+use native.Mathlib.Nat.{pow-suc, le-of-suc-le-suc, not-suc-le-zero, mul-assoc, mul-comm, add-mul, mod-eq-of-lt, mul-le-mul-right}
 use native.Mathlib.Omega.{arith}
 use lib.Dec.{eqb}
 use lib.Pow.{mod-pow-add, high}
-use lib.ListN.{length, getD, take, drop, replicate, length-append}
+use lib.ListN.{length, getD, replicate}
 use Rattle.rules.specs.Strings.{digit, field, valueFrom, value}
 
 pub field-length : (w a : ℕ) → length (field w a) ≡ w

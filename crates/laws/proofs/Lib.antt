@@ -6,6 +6,7 @@ pub mod Bits
 pub mod Below
 pub mod Union
 pub mod Settle
+pub mod Pairs
 pub mod Words
 pub mod Sums
 pub mod Steps

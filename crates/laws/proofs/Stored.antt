@@ -1,25 +1,25 @@
 -- The stored shape: a record that has it tells its stamp, each lawful stamp has one, and none of them is all zeros.
 -- A word tells its string, and a record is the same as another when its numbers are. Assumes nothing.
 use mathlib.Core.Path.{_≡_, refl, sym, ap, ap₂, _∙_, subst}
-use mathlib.Core.Bool.{Bool, true, false, not, _&&_}
-use mathlib.Core.List.{List, [], _∷_, _++_, map}
+use mathlib.Core.Bool.{Bool, true, false, not}
+use mathlib.Core.List.{List, [], _∷_, map}
 use mathlib.Core.Logic.{inl, inr}
-use Prim.Native.Nat.{ℕ, zero, suc, _+_, _-_, _≤_, _<_}
+use Prim.Native.Nat.{ℕ, _-_, _≤_}
 use native.Mathlib.Omega.{arith}
-use borrow.Author.Tests.{leb-true, eqb-true, eq-eqb}
-use lib.Dec.{eqb, leb}
-use lib.ListN.{length, take, replicate, length-map}
+use borrow.Author.Tests.{eqb-true, eq-eqb}
+use lib.Dec.{eqb}
+use lib.ListN.{length, replicate, length-map}
 use lib.Seq.{take-at}
 use Rattle.rules.specs.Limits.{Limits}
 use Rattle.rules.specs.Strings.{Str, wordOf, strOf}
-use Rattle.rules.specs.Names.{Name, all, rising, isName}
+use Rattle.rules.specs.Names.{Name, isName}
 use Rattle.rules.specs.Stamps.{Stamp, lawful}
 use Rattle.rules.specs.Stored.{wordsOf, stored, strsIn, held, sameNumbers, sameWords, sameRecord, isStoredName, isStored, unlawful, blank, absent}
 use Rattle.rules.specs.declared.Words.{Words}
 use Rattle.rules.specs.declared.Record.{Record}
-use Rattle.laws.proofs.Tests.{no, clash, not-true, is-not, not-is, and-left, and-right, and-both, In, all-each, each-all}
+use Rattle.laws.proofs.Tests.{no, not-true, and-left, and-right, and-both, In}
 use Rattle.laws.proofs.Words.{str-word}
-use Rattle.laws.proofs.Lawful.{Short, Named, name-parts, Lawful, lawful-parts}
+use Rattle.laws.proofs.Lawful.{Short, name-parts, lawful-parts}
 
 -- ---- records are the same when their numbers are
 

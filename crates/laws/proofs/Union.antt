@@ -1,6 +1,6 @@
 -- The union of two names: rising, with exactly the strings of both that no other properly extends; and the least upper bound.
 -- Assumes nothing.
-use mathlib.Core.Path.{_≡_, refl, sym, ap, _∙_, subst}
+use mathlib.Core.Path.{_≡_, refl, ap, _∙_}
 use mathlib.Core.Bool.{Bool, true, false, not, _&&_, _||_}
 use mathlib.Core.List.{List, [], _∷_, _++_}
 use mathlib.Core.Logic.{_⊎_, inl, inr, ⊎-elim}
@@ -9,7 +9,7 @@ use native.Mathlib.Omega.{arith}
 use native.Mathlib.Nat.{lt-of-not-le}
 use lib.ListN.{length}
 use Rattle.rules.specs.Strings.{Str, prefix, same}
-use Rattle.rules.specs.Names.{Name, any, keep, rising, covered, below, sorted, outgrown, union, unions}
+use Rattle.rules.specs.Names.{Name, any, keep, rising, covered, below, outgrown, union, unions}
 use Rattle.laws.proofs.Tests.{clash, decide, not-true, not-false, iff, and-left, and-right, and-both, or-cases, or-left, or-right, not-is, is-not, In, in-left, in-right, in-append, Some, any-some, some-any, none-any, keep-in, in-keep}
 use Rattle.laws.proofs.Prefix.{prefix-refl, prefix-trans, prefix-whole, same-is, is-same}
 use Rattle.laws.proofs.Rising.{sorted-in, in-sorted, sorted-rising}

@@ -3,7 +3,7 @@
 use mathlib.Core.Path.{_≡_, refl, sym, ap, ap₂, _∙_}
 use mathlib.Core.Bool.{Bool, true, false, cond, _&&_, Bool·beq}
 use mathlib.Core.List.{List, [], _∷_, _++_}
-use Prim.Native.Nat.{ℕ, zero, suc, _+_, _*_, _-_, _/_, _%_, _^_, _≤_, _<_}
+use Prim.Native.Nat.{ℕ, zero, suc, _+_, _*_, _-_, _/_, _%_, _^_, _≤_, _<_, min}
 use native.Mathlib.Nat.{mod-lt, pow-suc, le-of-suc-le-suc, not-suc-le-zero, div-lt-iff-lt-mul, mod-eq-of-lt}
 use native.Mathlib.Nat.{mul-assoc, mul-comm, add-mul, mul-le-mul-right, mul-mod-left, le-mul-of-pos-right}
 use native.Mathlib.Omega.{arith}
@@ -14,7 +14,7 @@ use lib.Dec.{eqb, leb, ltb, leb·zero, leb·suc-zero, leb·suc-suc}
 use lib.ListN.{length, take, replicate, length-append, length-replicate}
 use lib.Pow.{split, pow-pos, pow-add, pow-mono, shr-shr, shl-shr, high, low, mod-pow-add}
 use lib.Seq.{take-at, length-take-le}
-use Rattle.rules.specs.Strings.{Str, prefix, less, common, _▹_, digit, field, value, aligned, wordOf, strOf, isWord}
+use Rattle.rules.specs.Strings.{Str, prefix, less, common, siblings, _▹_, digit, field, value, aligned, wordOf, strOf, isWord}
 use Rattle.laws.proofs.Tests.{no, clash, not-true, iff}
 use Rattle.laws.proofs.Rising.{less-apart}
 use Rattle.laws.proofs.Bits.{field-length, value-lt, value-snoc, value-append, value-shift, value-field, field-value, value-zeros}
@@ -111,6 +111,52 @@ pub prefix-words : (a b z : ℕ) → z ≡ common (field 64 a) (field 64 b) → 
 unfolding strOf
 prefix-words a b z e =
     rw e (sym (prefix-take (a % 64) (b % 64) (field 64 a) (field 64 b) (omega (arith, field-length 64 a)) (omega (arith, field-length 64 b))))
+
+-- ---- siblings
+
+pub common-le : (s t : Str) → common s t ≤ length s
+unfolding common
+common-le [] t = omega arith
+common-le (a ∷ s) [] = omega arith
+common-le (a ∷ s) (b ∷ t) = step (Bool·beq a b) (common-le s t)
+  where
+    step : (e : Bool) → common s t ≤ length s → cond e (suc (common s t)) zero ≤ suc (length s)
+    step true ih = omega arith
+    step false ih = omega arith
+
+-- first parts of one length share what the wholes share, up to that length
+common-take : (m : ℕ) (s t : Str) → common (take m s) (take m t) ≡ min m (common s t)
+unfolding common
+common-take zero s t = omega arith
+common-take (suc m) [] t = omega arith
+common-take (suc m) (a ∷ s) [] = omega arith
+common-take (suc m) (a ∷ s) (b ∷ t) = step (Bool·beq a b) (common-take m s t)
+  where
+    step : (e : Bool) → common (take m s) (take m t) ≡ min m (common s t)
+        → cond e (suc (common (take m s) (take m t))) zero ≡ min (suc m) (cond e (suc (common s t)) zero)
+    step true ih = omega arith
+    step false ih = omega arith
+
+but-one : (m k : ℕ) → eqb (suc (min m k)) m ≡ eqb (k + 1) m
+but-one m k =
+    iff (λ p. eq-eqb (k + 1) m (omega (arith, eqb-true (suc (min m k)) m p))) (λ p. eq-eqb (suc (min m k)) m (omega (arith, eqb-true (k + 1) m p)))
+
+-- first parts are siblings exactly when they are of one length and the wholes share all of it but one digit
+pub siblings-take : (m n : ℕ) (s t : Str) → m ≤ length s → n ≤ length t → siblings (take m s) (take n t) ≡ (eqb m n && eqb (common s t + 1) m)
+unfolding siblings
+siblings-take m n s t hm hn = by (eqb m n) refl
+  where
+    by : (b : Bool) → eqb m n ≡ b
+        → (eqb (length (take m s)) (length (take n t)) && eqb (suc (common (take m s) (take n t))) (length (take m s))) ≡ (eqb m n && eqb (common s t + 1) m)
+    by true e =
+        let c : common (take m s) (take n t) ≡ min m (common s t) = ap (λ (k : ℕ). common (take m s) (take k t)) (sym (eqb-true m n e)) ∙ common-take m s t in
+        simp (length-take-le m s hm, length-take-le n t hn, e, c) (but-one m (common s t))
+    by false e = simp (length-take-le m s hm, length-take-le n t hn, e)
+
+pub siblings-words : (a b z : ℕ) → z ≡ common (field 64 a) (field 64 b) → (eqb (a % 64) (b % 64) && eqb (z + 1) (a % 64)) ≡ siblings (strOf a) (strOf b)
+unfolding strOf
+siblings-words a b z e =
+    rw e (sym (siblings-take (a % 64) (b % 64) (field 64 a) (field 64 b) (omega (arith, field-length 64 a)) (omega (arith, field-length 64 b))))
 
 -- ---- order
 

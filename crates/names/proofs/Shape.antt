@@ -6,19 +6,17 @@ use mathlib.Core.List.{List, [], _∷_, _++_, map}
 use mathlib.Core.Logic.{inl, ⊎-elim}
 use Prim.Native.Nat.{ℕ, zero, suc, _-_, _≤_, _<_}
 use native.Mathlib.Omega.{arith}
-use borrow.Author.Tests.{leb-true, leb-false, eqb-true, lt-leb, eq-eqb, ne-eqb}
+use borrow.Author.Tests.{leb-true, leb-false, lt-leb, eq-eqb, ne-eqb}
 use lib.Dec.{eqb, leb, eqb·zero-suc, eqb·suc-zero}
-use lib.ListN.{length, take, drop, replicate, length-map, length-drop, take-append-drop}
-use lib.Seq.{take-at}
+use lib.ListN.{length, replicate, length-map, length-drop, take-append-drop}
 use Rattle.rules.specs.Limits.{Limits}
 use Rattle.rules.specs.Strings.{Str, less, wordOf, strOf, isWord}
 use Rattle.rules.specs.Names.{Name, all, rising, isName}
 use Rattle.rules.specs.Stored.{wordsOf, strsIn, sameNumbers, sameWords, isStoredName}
 use Rattle.rules.specs.declared.Words.{Words}
 use Rattle.names.proofs.Laws.{front, behind, front-length, strs-length}
-use Rattle.laws.proofs.Tests.{no, iff, and-left, and-right, and-both}
+use Rattle.laws.proofs.Tests.{iff, and-left, and-right, and-both}
 use Rattle.laws.proofs.Rising.{less-trans, rising-head, rising-tail, rising-cons}
-use Rattle.laws.proofs.Words.{str-word}
 
 -- ---- rising, from neighbours
 
@@ -57,34 +55,6 @@ chain-stop s e h = ap (chain s) e ∙ rw h
 pub chain-end : (s : Str) {l : Name} → l ≡ [] → chain s l ≡ true
 unfolding chain
 chain-end s e = ap (chain s) e
-
--- ---- records are the same when their parts are
-
-pub numbers-are : (a b : List ℕ) → sameNumbers a b ≡ true → a ≡ b
-unfolding sameNumbers
-numbers-are [] [] e = refl
-numbers-are [] (y ∷ b) e = absurd (no e)
-numbers-are (x ∷ a) [] e = absurd (no e)
-numbers-are (x ∷ a) (y ∷ b) e =
-    ap₂ (λ (z : ℕ) (l : List ℕ). z ∷ l)
-    (eqb-true x y (and-left (eqb x y) (sameNumbers a b) e))
-    (numbers-are a b (and-right (eqb x y) (sameNumbers a b) e))
-
-numbers-refl : (a : List ℕ) → sameNumbers a a ≡ true
-unfolding sameNumbers
-numbers-refl [] = refl
-numbers-refl (x ∷ a) = and-both (eq-eqb x x refl) (numbers-refl a)
-
-pub words-are : (a b : Words) → sameWords a b ≡ true → a ≡ b
-unfolding sameWords
-words-are a b e =
-    let p = eqb-true (a .count) (b .count) (and-left (eqb (a .count) (b .count)) (sameNumbers (a .words) (b .words)) e) in
-    let q = numbers-are (a .words) (b .words) (and-right (eqb (a .count) (b .count)) (sameNumbers (a .words) (b .words)) e) in
-    λ i. record { count = p i; words = q i }
-
-pub words-refl : (a : Words) → sameWords a a ≡ true
-unfolding sameWords
-words-refl a = and-both (eq-eqb (a .count) (a .count) refl) (numbers-refl (a .words))
 
 -- ---- what the tests of words ask
 
@@ -175,45 +145,3 @@ module _ (L : Limits) (n : Words) (full : length (n .words) ≡ L .strings) wher
           let h = leb-false (n .count) (L .strings) e in
           beyond (n .count) (L .strings) (length (strsIn n)) (isName L (strsIn n)) (sameNumbers (n .words) (wordsOf L (strsIn n) .words))
           (all (isWord (L .digits)) (front n)) (rising (strsIn n)) (all (eqb 0) (behind n)) (omega (arith, strs-length n (L .strings) full)) h
-
--- ---- one shape tells one name, and each name has one
-
-module _ (L : Limits) (w : Words) (h : isStoredName L w ≡ true) where
-  pub stored-name : isName L (strsIn w) ≡ true
-  unfolding isStoredName
-  stored-name = and-left (isName L (strsIn w)) (sameWords w (wordsOf L (strsIn w))) h
-
-  pub stored-name-is : w ≡ wordsOf L (strsIn w)
-  unfolding isStoredName
-  stored-name-is = words-are w (wordsOf L (strsIn w)) (and-right (isName L (strsIn w)) (sameWords w (wordsOf L (strsIn w))) h)
-
--- the strings of a name are within the limit of digits
-pub name-short : (L : Limits) (n : Name) → isName L n ≡ true → all (λ s. leb (length s) (L .digits)) n ≡ true
-unfolding isName
-name-short L n h =
-    let sized = leb 1 (length n) && leb (length n) (L .strings) in
-    let short = all (λ s. leb (length s) (L .digits)) n in
-    and-right sized short (and-left (sized && short) (rising n) h)
-
-strs-words : (most : ℕ) → most ≤ 58 → (n : Name) → all (λ s. leb (length s) most) n ≡ true → map strOf (map wordOf n) ≡ n
-unfolding all
-strs-words most room [] h = refl
-strs-words most room (s ∷ n) h =
-    let short = leb (length s) most in
-    let rest = all (λ t. leb (length t) most) n in
-    ap₂ (λ (t : Str) (l : Name). t ∷ l)
-    (str-word s (omega (arith, leb-true (length s) most (and-left short rest h))))
-    (strs-words most room n (and-right short rest h))
-
-module _ (L : Limits) (n : Name) where
-  pub strs-of-words : all (λ s. leb (length s) (L .digits)) n ≡ true → L .digits ≤ 58 → strsIn (wordsOf L n) ≡ n
-  unfolding strsIn wordsOf
-  strs-of-words h room =
-      ap (map strOf) (take-at (map wordOf n) (replicate (L .strings - length n) 0) (length n) (length-map n wordOf)) ∙ strs-words (L .digits) room n h
-
-  pub is-stored-name : isName L n ≡ true → L .digits ≤ 58 → isStoredName L (wordsOf L n) ≡ true
-  unfolding isStoredName
-  is-stored-name h room =
-      let e = strs-of-words (name-short L n h) room in
-      and-both (subst (λ (m : Name). isName L m ≡ true) (sym e) h)
-      (subst (λ (m : Name). sameWords (wordsOf L n) (wordsOf L m) ≡ true) (sym e) (words-refl (wordsOf L n)))

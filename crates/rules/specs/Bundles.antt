@@ -1,16 +1,15 @@
 -- "A bundle is at most 65,536 bytes: entries back to back, each one length byte (3 to 117) and that many bytes of packed stamp."
-use mathlib.Core.Bool.{Bool, true, false, cond, not, _&&_, _||_}
+use mathlib.Core.Bool.{Bool, cond, _||_}
 use mathlib.Core.List.{List, [], _∷_}
 use Prim.Native.Nat.{ℕ, zero, suc, _+_}
-use lib.Dec.{leb, ltb}
+use lib.Dec.{ltb}
 use lib.ListN.{length, take, drop}
 use Rattle.rules.specs.Limits.{Limits, bundleRoom, shortest, longest}
 use Rattle.rules.specs.Packed.{readStamp}
 use Rattle.rules.specs.Stored.{blank}
 use Rattle.rules.specs.declared.Refusal.{Refusal}
 use Rattle.rules.specs.declared.Refusal.the-variants.{Malformed, Ended}
-use Rattle.rules.specs.declared.Answer.{Answer}
-use Rattle.rules.specs.declared.Answer.the-variants.{Done, Refused}
+use Rattle.rules.specs.declared.Answer.the-variants.{Refused}
 use Rattle.rules.specs.declared.Given.{Given}
 
 -- an entry's own bytes, or the refusal

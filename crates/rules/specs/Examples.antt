@@ -4,7 +4,7 @@ use mathlib.Core.Bool.{Bool, true, false}
 use mathlib.Core.List.{List, [], _∷_, _++_, map}
 use Prim.Native.Nat.{ℕ, zero, suc}
 use lib.ListN.{drop}
-use Rattle.rules.specs.Limits.{Limits, narrow}
+use Rattle.rules.specs.Limits.{narrow}
 use Rattle.rules.specs.Strings.{Str, prefix, same, less, field, valueFrom, aligned, wordOf, strOf}
 use Rattle.rules.specs.Names.{Name, any, all, keep, member, rising, isName, covered, below, insert, sorted, outgrown, union}
 use Rattle.rules.specs.Stamps.{Stamp, start, pairAmong, pair, lawful, update, append, fork, settle, settled, reduceBy, reduce, unite, join, compare}
@@ -14,11 +14,9 @@ use Rattle.rules.specs.Values.{updated, forked, joined, compared}
 use Rattle.rules.specs.Packed.{stringBits, stringsBits, nameBits, stampBits, bytesOf, packBits, packed}
 use Rattle.rules.specs.Tables.{badSize, noSlot, lowest, full, freshTable, updateAt, forkAt, joinAt, compareAt, spareFrom, spareAt}
 use Rattle.rules.specs.Traces.{splitAt, dropEmptyLast, linesOf, slotOf, readLine, okText, refusedText, verdictText, lineText, lineTable, tracedFrom, readLines, traced}
-use Rattle.rules.specs.declared.Verdict.{Verdict}
 use Rattle.rules.specs.declared.Verdict.the-variants.{Equal, Obsolete, Conflict}
 use Rattle.rules.specs.declared.Refusal.the-variants.{Unlawful, Overlap, Unseen}
-use Rattle.rules.specs.declared.Answer.{Answer}
-use Rattle.rules.specs.declared.Answer.the-variants.{Done, Refused}
+use Rattle.rules.specs.declared.Answer.the-variants.{Done}
 use Rattle.rules.specs.declared.Compared.{Compared}
 use Rattle.rules.specs.declared.Compared.the-variants.{Is, Refused as NotCompared}
 use Rattle.rules.specs.declared.Given.{Given}

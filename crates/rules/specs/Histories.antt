@@ -7,11 +7,10 @@ use lib.ListN.{length, getD, set, replicate}
 use Rattle.rules.specs.Limits.{Limits}
 use Rattle.rules.specs.Names.{any, all}
 use Rattle.rules.specs.Stamps.{verdict, sumShares}
-use Rattle.rules.specs.Stored.{held, absent}
-use Rattle.rules.specs.Tables.{Table, Step, freshTable, updateAt, forkAt, joinAt, compareAt, present}
+use Rattle.rules.specs.Stored.{held}
+use Rattle.rules.specs.Tables.{Table, Step, freshTable, updateAt, forkAt, joinAt, present}
 use Rattle.rules.specs.declared.Verdict.{Verdict}
 use Rattle.rules.specs.declared.Verdict.the-variants.{Equal, Obsolete, Newer, Conflict}
-use Rattle.rules.specs.declared.Refusal.{Refusal}
 use Rattle.rules.specs.declared.Slot.{Slot}
 use Rattle.rules.specs.declared.Slot.the-variants.{At, Refused}
 

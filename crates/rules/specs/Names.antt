@@ -1,7 +1,6 @@
 -- "Strings, names, stamps": names, below, union. A name is a set of strings; it stands as the list of them in rising order.
 use mathlib.Core.Bool.{Bool, true, false, cond, not, _&&_, _||_}
 use mathlib.Core.List.{List, [], _∷_, _++_}
-use Prim.Native.Nat.{ℕ}
 use lib.Dec.{leb}
 use lib.ListN.{length}
 use Rattle.rules.specs.Limits.{Limits}

@@ -1,5 +1,5 @@
 -- "Packed stamps and bundles": bits, most significant first; writing, reading, and the packed calls.
-use mathlib.Core.Bool.{Bool, true, false, cond, not, _&&_, _||_}
+use mathlib.Core.Bool.{Bool, false, cond, not, _&&_, _||_}
 use mathlib.Core.List.{List, [], _∷_, _++_}
 use mathlib.Core.Option.{Option, none, some}
 use Prim.Native.Nat.{ℕ, zero, suc, _+_, _*_, _-_}
@@ -14,7 +14,6 @@ use Rattle.rules.specs.Refusals.{first, andThen, number, verdictNumber}
 use Rattle.rules.specs.Values.{given, updated, forked, joined, compared}
 use Rattle.rules.specs.declared.Record.{Record}
 use Rattle.rules.specs.declared.Verdict.{Verdict}
-use Rattle.rules.specs.declared.Refusal.{Refusal}
 use Rattle.rules.specs.declared.Refusal.the-variants.{Malformed, Unlawful, Short}
 use Rattle.rules.specs.declared.Answer.{Answer}
 use Rattle.rules.specs.declared.Answer.the-variants.{Done, Refused}

@@ -1,7 +1,7 @@
 -- What is promised of the definitions, as propositions: a definition claims nothing, and docs/CONTRACTS.md says which are proved.
 use mathlib.Core.Path.{_≡_}
-use mathlib.Core.Bool.{Bool, true, false, cond}
-use mathlib.Core.List.{List, [], _∷_, map}
+use mathlib.Core.Bool.{true, cond}
+use mathlib.Core.List.{List, map}
 use Prim.Native.Nat.{ℕ, _≤_}
 use lib.Dec.{ltb}
 use lib.ListN.{length}
@@ -10,14 +10,12 @@ use Rattle.rules.specs.Strings.{Str, prefix, whole}
 use Rattle.rules.specs.Names.{all, member, below, unions}
 use Rattle.rules.specs.Stamps.{Stamp, lawful}
 use Rattle.rules.specs.Stored.{held, isStored}
-use Rattle.rules.specs.Refusals.{number}
 use Rattle.rules.specs.Values.{given}
 use Rattle.rules.specs.Packed.{packed, readStamp}
 use Rattle.rules.specs.Tables.{Table, at, stampAt, present, compareAt, spareAt, updateAt, forkAt, joinAt}
 use Rattle.rules.specs.Histories.{Call, World, eventsAt, eventsOf, within, eventVerdict, isBehind, sumTable, history}
 use Rattle.rules.specs.declared.Refusal.{Refusal}
 use Rattle.rules.specs.declared.Refusal.the-variants.{Overlap, Unseen, Unfit}
-use Rattle.rules.specs.declared.Answer.{Answer}
 use Rattle.rules.specs.declared.Answer.the-variants.{Done}
 use Rattle.rules.specs.declared.Compared.{Compared}
 use Rattle.rules.specs.declared.Compared.the-variants.{Is, Refused as NotCompared}

@@ -1,5 +1,5 @@
 -- "Refusal numbers": the numbers, what 6 to 9 ask of stamps, and the order of a call's refusals.
-use mathlib.Core.Bool.{Bool, true, false, cond, not, _&&_, _||_}
+use mathlib.Core.Bool.{Bool, cond, not, _&&_, _||_}
 use mathlib.Core.List.{List, [], _∷_}
 use Prim.Native.Nat.{ℕ}
 use lib.Dec.{eqb, ltb}

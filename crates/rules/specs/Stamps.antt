@@ -6,7 +6,7 @@ use Prim.Native.Nat.{ℕ, zero, suc, _+_}
 use lib.ListN.{length}
 use Rattle.rules.specs.Limits.{Limits}
 use Rattle.rules.specs.Strings.{Str, same, _▹_, share}
-use Rattle.rules.specs.Names.{Name, any, keep, member, isName, covered, below, insert, union}
+use Rattle.rules.specs.Names.{Name, keep, member, isName, below, insert, union}
 use Rattle.rules.specs.declared.Verdict.{Verdict}
 use Rattle.rules.specs.declared.Verdict.the-variants.{Equal, Obsolete, Newer, Conflict}
 

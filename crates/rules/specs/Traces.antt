@@ -1,12 +1,12 @@
 -- "The trace tool": what a line means, what it prints, and what a whole input prints.
-use mathlib.Core.Bool.{Bool, true, false, cond, not, _&&_}
+use mathlib.Core.Bool.{Bool, cond, not, _&&_}
 use mathlib.Core.List.{List, [], _∷_, _++_}
 use mathlib.Core.Option.{Option, none, some}
-use Prim.Native.Nat.{ℕ, zero, suc, _+_, _*_, _-_, _/_, _%_}
+use Prim.Native.Nat.{ℕ, _+_, _*_, _-_, _/_, _%_}
 use lib.Dec.{eqb, leb, ltb}
 use Rattle.rules.specs.Limits.{Limits, records}
 use Rattle.rules.specs.Refusals.{number}
-use Rattle.rules.specs.Tables.{Table, Step, freshTable, updateAt, forkAt, joinAt, compareAt, spareAt}
+use Rattle.rules.specs.Tables.{Table, freshTable, updateAt, forkAt, joinAt, compareAt, spareAt}
 use Rattle.rules.specs.declared.Verdict.{Verdict}
 use Rattle.rules.specs.declared.Verdict.the-variants.{Equal, Obsolete, Newer, Conflict}
 use Rattle.rules.specs.declared.Refusal.{Refusal}

@@ -1,7 +1,7 @@
 // Strings, each in a word: its digits from the top down, its length in the six low bits.
 ghost use mathlib.Core.Path.{_≡_};
 ghost use Rattle.rules.specs.Limits.{narrow};
-ghost use Rattle.rules.specs.Strings.{common, field, prefix, less, strOf, isWord};
+ghost use Rattle.rules.specs.Strings.{common, field, prefix, less, siblings, strOf, isWord};
 
 // A string has at most so many digits.
 pub const DIGITS: u64 = 24;
@@ -36,6 +36,18 @@ pub fn comes_before(a: u64, b: u64) -> bool
         return false;
     }
     a < b
+}
+
+// Whether the two strings differ in the last digit only.
+pub fn are_siblings(a: u64, b: u64) -> bool
+    ensures { λ r. ⌜ r ≡ siblings (strOf a) (strOf b) ⌝ }
+{
+    let m = (a % 64) as u32;
+    let n = (b % 64) as u32;
+    if m == n {
+        return shared(a, b) + 1 == m;
+    }
+    false
 }
 
 // Whether w is the word of a string within the limit: nothing stands behind the digits but the length.

@@ -1,0 +1,69 @@
+// The answers as numbers, for callers that take numbers alone: what was written, a verdict, or 1,000 plus a refusal's number.
+ghost use mathlib.Core.Path.{_≡_};
+ghost use Prim.Native.Nat.{ℕ, _+_};
+ghost use Rattle.rules.specs.Refusals.{number, verdictNumber};
+ghost use Rattle.rules.specs.Packed.{writtenNumber, comparedNumber};
+use rules::Compared;
+use rules::Refusal;
+use rules::Verdict;
+use rules::Written;
+
+// A refusal: 1,000 and its number.
+pub fn refusal_code(r: Refusal) -> u64
+    ensures { λ n. ⌜ n ≡ 1000 + number r ⌝ }
+{
+    1000 + refusal_number(r)
+}
+
+// The number that the rules give a refusal.
+fn refusal_number(r: Refusal) -> u64
+    ensures { λ n. ⌜ n ≡ number r ⌝ }
+{
+    match r {
+        Refusal::Malformed => 1,
+        Refusal::Unlawful => 2,
+        Refusal::NoSlot => 3,
+        Refusal::OneSlot => 4,
+        Refusal::Full => 5,
+        Refusal::Long => 6,
+        Refusal::Many => 7,
+        Refusal::Overlap => 8,
+        Refusal::Unseen => 9,
+        Refusal::Short => 10,
+        Refusal::Unread => 11,
+        Refusal::Unfit => 12,
+        Refusal::Ended => 13,
+    }
+}
+
+// A verdict: 0 equal, 1 obsolete, 2 newer, 3 conflict.
+pub fn verdict_code(v: Verdict) -> u64
+    ensures { λ n. ⌜ n ≡ verdictNumber v ⌝ }
+{
+    match v {
+        Verdict::Equal => 0,
+        Verdict::Obsolete => 1,
+        Verdict::Newer => 2,
+        Verdict::Conflict => 3,
+    }
+}
+
+// What a comparison says.
+pub fn compared_code(c: Compared) -> u64
+    ensures { λ n. ⌜ n ≡ comparedNumber c ⌝ }
+{
+    match c {
+        Compared::Is(v) => verdict_code(v),
+        Compared::Refused(r) => refusal_code(r),
+    }
+}
+
+// How many bytes a packed call wrote.
+pub fn written_code(w: Written) -> u64
+    ensures { λ n. ⌜ n ≡ writtenNumber w ⌝ }
+{
+    match w {
+        Written::Bytes(n) => n as u64,
+        Written::Refused(r) => refusal_code(r),
+    }
+}

@@ -1,0 +1,65 @@
+-- Names, their records and working names: each holds the words of its strings, and tells them. Assumes nothing.
+use mathlib.Core.Path.{_≡_, refl, sym, ap, ap₂, _∙_}
+use mathlib.Core.Bool.{true}
+use mathlib.Core.List.{List, [], _∷_, _++_, map}
+use mathlib.Core.Logic.{inl, inr}
+use Prim.Native.Nat.{ℕ, _-_, _≤_}
+use native.Mathlib.Omega.{arith}
+use lib.ListN.{length, replicate, length-map}
+use Rattle.rules.specs.Limits.{narrow}
+use Rattle.rules.specs.Strings.{Str, wordOf, strOf}
+use Rattle.rules.specs.Names.{Name}
+use Rattle.rules.specs.Stored.{wordsOf, strsIn, isStoredName}
+use Rattle.rules.specs.declared.Words.{Words}
+use Rattle.laws.proofs.Words.{str-word}
+use Rattle.laws.proofs.Lawful.{Short, Named, name-parts}
+use Rattle.laws.proofs.Stored.{stored-name, stored-name-is}
+use Rattle.joins.specs.Passes.{front}
+use Rattle.joins.specs.Working.{words, wideOf, strs}
+use Rattle.joins.proofs.Passes.{front-append, front-wide, sets-zeros}
+
+-- ---- a name's record
+
+module _ (w : Words) (h : isStoredName narrow w ≡ true) where
+  pub stored-named : Named narrow (strsIn w)
+  stored-named = name-parts narrow (strsIn w) (stored-name narrow w h)
+
+  stored-count : w .count ≡ length (strsIn w)
+  unfolding wordsOf
+  stored-count = ap (λ (x : Words). x .count) (stored-name-is narrow w h)
+
+  pub stored-few : w .count ≤ 16
+  stored-few = omega (arith, stored-count, stored-named .few)
+
+  pub stored-words : front (w .words) (w .count) ≡ map wordOf (strsIn w)
+  unfolding wordsOf
+  stored-words =
+      ap₂ (λ (ws : List ℕ) (c : ℕ). front ws c) (ap (λ (x : Words). x .words) (stored-name-is narrow w h)) (stored-count ∙ sym (length-map (strsIn w) wordOf))
+      ∙ front-append (map wordOf (strsIn w)) (replicate (16 - length (strsIn w)) 0)
+
+-- what is copied into a name's record is the stored shape
+pub words-stored : (n : Name) → length n ≤ 16 → words (map wordOf n) ≡ wordsOf narrow n
+unfolding wordsOf
+words-stored n h =
+    let p = length-map n wordOf in
+    let q = sets-zeros 16 (map wordOf n) (omega (arith, p)) ∙ ap (λ (k : ℕ). map wordOf n ++ replicate (16 - k) 0) p in
+    λ i. record { count = p i; words = q i }
+
+-- ---- a working name
+
+strs-words : (n : Name) → Short 58 n → map strOf (map wordOf n) ≡ n
+strs-words [] h = refl
+strs-words (s ∷ n) h = ap₂ (λ (t : Str) (l : Name). t ∷ l) (str-word s (h s (inl refl))) (strs-words n (λ t i. h t (inr i)))
+
+module _ (n : Name) (few : length n ≤ 32) where
+  pub wide-words : front (wideOf n .words) (wideOf n .count) ≡ map wordOf n
+  unfolding wideOf
+  wide-words = front-wide (map wordOf n) (omega (arith, length-map n wordOf))
+
+  pub wide-strs : Short 58 n → strs (wideOf n) ≡ n
+  unfolding strs
+  wide-strs h = ap (map strOf) wide-words ∙ strs-words n h
+
+pub wide-count : (n : Name) → wideOf n .count ≡ length n
+unfolding wideOf
+wide-count n = length-map n wordOf

@@ -1,0 +1,3 @@
+-- What the private functions do, on lists of words and on working names. The public contract cites none of it.
+pub mod Passes
+pub mod Working

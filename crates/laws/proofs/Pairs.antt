@@ -1,0 +1,196 @@
+-- In rising order x0 and x1 stand side by side: so `pair` finds what a walk over neighbours finds first. Assumes nothing.
+use mathlib.Core.Path.{_≡_, refl, sym, ap, ap₂, _∙_, subst}
+use mathlib.Core.Bool.{Bool, true, false, cond, _&&_}
+use mathlib.Core.List.{[], _∷_, dropLast}
+use mathlib.Core.Logic.{inl, inr, ⊎-elim}
+use mathlib.Core.Option.{Option, none, some}
+use Prim.Native.Nat.{ℕ, suc, _≤_}
+use native.Mathlib.Omega.{arith}
+use lib.Dec.{eqb, eqb·suc-suc}
+use lib.ListN.{length}
+use borrow.Author.Tests.{eqb-true}
+use Rattle.rules.specs.Strings.{Str, prefix, less, common, siblings, _▹_}
+use Rattle.rules.specs.Names.{Name, member, rising}
+use Rattle.rules.specs.Stamps.{pairAmong, pair}
+use Rattle.laws.proofs.Tests.{no, clash, iff, not-true, and-left, and-right, and-both, In}
+use Rattle.laws.proofs.Rising.{less-trans, less-irrefl, rising-head, rising-tail, rising-antichain}
+use Rattle.laws.proofs.Below.{member-in, in-member}
+use Rattle.laws.proofs.Settle.{drop-grown}
+
+-- the first two neighbours that are siblings, less their last digit
+unfoldable pub firstTwins : Name → Option Str
+firstTwins [] = none
+firstTwins (s ∷ []) = none
+firstTwins (s ∷ t ∷ n) = cond (siblings s t) (some (dropLast s)) (firstTwins (t ∷ n))
+
+-- one neighbour more, as a loop wants it
+pub twins-now : {n m : Name} {s t : Str} → n ≡ s ∷ t ∷ m → siblings s t ≡ true → firstTwins n ≡ some (dropLast s)
+unfolding firstTwins
+twins-now e h = ap firstTwins e ∙ rw h
+
+pub twins-more : {n m : Name} {s t : Str} → n ≡ s ∷ t ∷ m → siblings s t ≡ false → firstTwins n ≡ firstTwins (t ∷ m)
+unfolding firstTwins
+twins-more e h = ap firstTwins e ∙ rw h
+
+pub twins-end : (n : Name) → length n ≤ 1 → firstTwins n ≡ none
+unfolding firstTwins
+twins-end [] h = refl
+twins-end (s ∷ []) h = refl
+twins-end (s ∷ t ∷ n) h = absurd (omega arith)
+
+-- ---- two siblings
+
+-- s and t are x0 and x1 for one x
+pub record Twins (s t : Str) : Type 0 where
+  pub root : Str
+  pub left : s ≡ root ▹ false
+  pub right : t ≡ root ▹ true
+
+-- one digit in front makes no difference
+siblings-cons : (a : Bool) (s t : Str) → siblings (a ∷ s) (a ∷ t) ≡ siblings s t
+unfolding siblings common
+siblings-cons true s t = simp eqb·suc-suc
+siblings-cons false s t = simp eqb·suc-suc
+
+twins-cons : (a : Bool) (s t : Str) → Twins s t → Twins (a ∷ s) (a ∷ t)
+twins-cons a s t w = record { root = a ∷ w .root; left = ap (λ (l : Str). a ∷ l) (w .left); right = ap (λ (l : Str). a ∷ l) (w .right) }
+
+pub siblings-twins : (s t : Str) → less s t ≡ true → siblings s t ≡ true → Twins s t
+unfolding less siblings common
+siblings-twins [] t p q = absurd (no p)
+siblings-twins (a ∷ s) [] p q = absurd (no p)
+siblings-twins (true ∷ s) (true ∷ t) p q = twins-cons true s t (siblings-twins s t p (sym (siblings-cons true s t) ∙ q))
+siblings-twins (false ∷ s) (false ∷ t) p q = twins-cons false s t (siblings-twins s t p (sym (siblings-cons false s t) ∙ q))
+siblings-twins (true ∷ s) (false ∷ t) p q = absurd (no p)
+siblings-twins (false ∷ []) (true ∷ []) p q = record { root = []; left = refl; right = refl }
+siblings-twins (false ∷ []) (true ∷ (b ∷ t)) p q =
+    let e : 1 ≡ suc (suc (length t)) = eqb-true 1 (suc (suc (length t))) (and-left (eqb 1 (suc (suc (length t)))) (eqb 1 1) q) in absurd (omega arith)
+siblings-twins (false ∷ (a ∷ s)) (true ∷ t) p q =
+    let n : ℕ = suc (suc (length s)) in
+    let e : 1 ≡ n = eqb-true 1 n (and-right (eqb n (suc (length t))) (eqb 1 n) q) in absurd (omega arith)
+
+pub twins-siblings : (x : Str) → siblings (x ▹ false) (x ▹ true) ≡ true
+unfolding siblings common
+twins-siblings [] = refl
+twins-siblings (a ∷ x) = siblings-cons a (x ▹ false) (x ▹ true) ∙ twins-siblings x
+
+pub twins-less : (x : Str) → less (x ▹ false) (x ▹ true) ≡ true
+unfolding less
+twins-less [] = refl
+twins-less (true ∷ x) = twins-less x
+twins-less (false ∷ x) = twins-less x
+
+-- nothing comes between x0 and x1
+pub none-between : (x t : Str) → less (x ▹ false) t ≡ true → less t (x ▹ true) ≡ true → ⊥
+unfolding less
+none-between [] [] p q = no p
+none-between [] (false ∷ t) p q = no p
+none-between [] (true ∷ []) p q = no q
+none-between [] (true ∷ (b ∷ t)) p q = no q
+none-between (a ∷ x) [] p q = no p
+none-between (true ∷ x) (true ∷ t) p q = none-between x t p q
+none-between (false ∷ x) (false ∷ t) p q = none-between x t p q
+none-between (true ∷ x) (false ∷ t) p q = no p
+none-between (false ∷ x) (true ∷ t) p q = no q
+
+-- ---- the walk
+
+-- a string is empty, or has a last digit
+data End (s : Str) : Type 0 where
+  empty : s ≡ [] → End s
+  more : (x : Str) (d : Bool) → s ≡ x ▹ d → End s
+
+end : (s : Str) → End s
+end [] = empty refl
+end (a ∷ s) = by (end s)
+  where
+    by : End s → End (a ∷ s)
+    by (empty e) = more [] a (ap (λ (l : Str). a ∷ l) e)
+    by (more x d e) = more (a ∷ x) d (ap (λ (l : Str). a ∷ l) e)
+
+module _ (n : Name) (h : rising n ≡ true) where
+  -- l is a part of n that has both of x0 and x1 or none
+  record Part (l : Name) : Type 0 where
+    within : (x : Str) → In x l → In x n
+    left : (x : Str) → In (x ▹ true) l → In (x ▹ false) n → In (x ▹ false) l
+    right : (x : Str) → In (x ▹ false) l → In (x ▹ true) n → In (x ▹ true) l
+
+  abbrev both : Str → Bool
+  both x = member (x ▹ false) n && member (x ▹ true) n
+
+  both-in : (x : Str) → both x ≡ true → In (x ▹ false) n × In (x ▹ true) n
+  both-in x e = (
+    member-in (x ▹ false) n (and-left (member (x ▹ false) n) (member (x ▹ true) n) e),
+    member-in (x ▹ true) n (and-right (member (x ▹ false) n) (member (x ▹ true) n) e),
+  )
+
+  -- x is what the last digit was taken from
+  both-root : (s x : Str) (d : Bool) → s ≡ x ▹ d → In (x ▹ false) n → In (x ▹ true) n → both (dropLast s) ≡ true
+  both-root s x d e i j =
+      subst (λ (y : Str). both y ≡ true) (sym (ap dropLast e ∙ drop-grown x d)) (and-both (in-member (x ▹ false) n i) (in-member (x ▹ true) n j))
+
+  -- s is x0, and x1 stands behind it
+  record Leads (s : Str) (l : Name) : Type 0 where
+    root : Str
+    is : s ≡ root ▹ false
+    twin : In (root ▹ true) l
+
+  -- the head of a part, where n has both: it is the left one
+  head-leads : (s : Str) (l : Name) → rising (s ∷ l) ≡ true → Part (s ∷ l) → both (dropLast s) ≡ true → Leads s l
+  unfolding prefix
+  head-leads s l k p e = by (end s)
+    where
+      root-in : (x : Str) (d : Bool) → s ≡ x ▹ d → In (x ▹ false) n × In (x ▹ true) n
+      root-in x d f = both-in x (subst (λ (y : Str). both y ≡ true) (ap dropLast f ∙ drop-grown x d) e)
+
+      by : End s → Leads s l
+      by (empty f) =
+          let c = rising-antichain n h s (dropLast s ▹ false) (p .within s (inl refl)) (both-in (dropLast s) e .0) (rw f) in
+          absurd (omega (arith, ap length (rw f at c)))
+      by (more x true f) =
+          absurd
+          (⊎-elim (λ g. less-irrefl (x ▹ true) (subst (λ (y : Str). less y (x ▹ true) ≡ true) (g ∙ f) (twins-less x)))
+          (λ g. less-irrefl (x ▹ false)
+          (less-trans (x ▹ false) (x ▹ true) (x ▹ false) (twins-less x) (subst (λ (y : Str). less y (x ▹ false) ≡ true) f (rising-head s l k (x ▹ false) g))))
+          (p .left x (inl (sym f)) (root-in x true f .0)))
+      by (more x false f) = record {
+        root = x;
+        is = f;
+        twin = ⊎-elim (λ g. absurd (less-irrefl (x ▹ false) (subst (λ (y : Str). less (x ▹ false) y ≡ true) (g ∙ f) (twins-less x)))) (λ g. g)
+            (p .right x (inl (sym f)) (root-in x false f .1));
+      }
+
+  tail-part : (s : Str) (l : Name) → Part (s ∷ l) → both (dropLast s) ≡ false → Part l
+  tail-part s l p e = record {
+    within = λ x i. p .within x (inr i);
+    left = λ x i j. ⊎-elim (λ g. absurd (clash (both-root s x false (sym g) j (p .within (x ▹ true) (inr i))) e)) (λ g. g) (p .left x (inr i) j);
+    right = λ x i j. ⊎-elim (λ g. absurd (clash (both-root s x true (sym g) (p .within (x ▹ false) (inr i)) j) e)) (λ g. g) (p .right x (inr i) j);
+  }
+
+  -- at two neighbours the two walks ask the same
+  next-test : (s t : Str) (l : Name) → rising (s ∷ t ∷ l) ≡ true → Part (s ∷ t ∷ l) → both (dropLast s) ≡ siblings s t
+  next-test s t l k p =
+      iff
+      (λ e. let w = head-leads s (t ∷ l) k p e in
+      let before : less (w .root ▹ false) t ≡ true = subst (λ (y : Str). less y t ≡ true) (w .is) (rising-head s (t ∷ l) k t (inl refl)) in
+      ⊎-elim (λ g. ap₂ siblings (w .is) (sym g) ∙ twins-siblings (w .root))
+      (λ g. absurd (none-between (w .root) t before (rising-head t l (rising-tail s (t ∷ l) k) (w .root ▹ true) g)))
+      (w .twin))
+      (λ e. let w = siblings-twins s t (rising-head s (t ∷ l) k t (inl refl)) e in
+      both-root s (w .root) false (w .left) (p .within (w .root ▹ false) (inl (sym (w .left)))) (p .within (w .root ▹ true) (inr (inl (sym (w .right))))))
+
+  walk : (l : Name) → rising l ≡ true → Part l → pairAmong l n ≡ firstTwins l
+  unfolding pairAmong firstTwins
+  walk [] k p = refl
+  walk (s ∷ []) k p = ap (λ (b : Bool). cond b (some (dropLast s)) none) (not-true (λ e. head-leads s [] k p e .twin))
+  walk (s ∷ t ∷ l) k p = by (both (dropLast s)) refl (λ e. walk (t ∷ l) (rising-tail s (t ∷ l) k) (tail-part s (t ∷ l) p e))
+    where
+      by : (b : Bool) → both (dropLast s) ≡ b → (both (dropLast s) ≡ false → pairAmong (t ∷ l) n ≡ firstTwins (t ∷ l))
+          → cond b (some (dropLast s)) (pairAmong (t ∷ l) n) ≡ cond (siblings s t) (some (dropLast s)) (firstTwins (t ∷ l))
+      by true e ih = rw (sym (next-test s t l k p) ∙ e)
+      by false e ih = rw (sym (next-test s t l k p) ∙ e) (ih e)
+
+  -- in rising order: what `pair` finds is the first two neighbours that are siblings
+  pub neighbour-pair : pair n ≡ firstTwins n
+  unfolding pair
+  neighbour-pair = walk n h (record { within = λ x i. i; left = λ x i j. j; right = λ x i j. j })

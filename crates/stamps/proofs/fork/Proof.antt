@@ -1,0 +1,108 @@
+-- `stamps::fork` meets its contract: the tests in their order, a stored update kept as it is, and the id grown by 0 and by 1. Assumes nothing.
+use borrow.Author.Needs.{needs}
+use borrow.Author.Tests.{not-true, not-false}
+use mathlib.Core.Path.{_≡_, sym, ap, _∙_}
+use mathlib.Core.Bool.{Bool, true, false}
+use native.Mathlib.Omega.{arith}
+use lib.Dec.{eqb}
+use lib.ListN.{length}
+use Rattle.rules.specs.Limits.{Limits, narrow}
+use Rattle.rules.specs.Names.{any}
+use Rattle.rules.specs.Stamps.{append, fork}
+use Rattle.rules.specs.Stored.{wordsOf, stored, strsIn, held, isStored, unlawful, blank}
+use Rattle.rules.specs.Refusals.{first, long}
+use Rattle.rules.specs.Values.{forked}
+use Rattle.rules.specs.declared.Words.{Words}
+use Rattle.rules.specs.declared.Record.{Record}
+use Rattle.rules.specs.declared.Forked.{Forked}
+use Rattle.rules.specs.declared.Refusal.{Refusal}
+use Rattle.rules.specs.declared.Refusal.the-variants.{Unlawful, Long}
+use Rattle.rules.specs.declared.Answer.the-variants.{Done, Refused}
+use Rattle.laws.proofs.Stored.{stored-is}
+use Rattle.stamps.proofs.Laws.{stored-names}
+use Rattle.stamps.proofs.fork.Statement.{statement}
+use Rattle.stamps.proofs.fork.Tie as tie
+
+module _ (L : Limits) (r : Record) where
+  -- the refusal, and all zeros beside it
+  abbrev Zeros : Refusal → Forked → Type 0
+  Zeros n f = (f .answer ≡ Refused n) × (f .zero ≡ blank L) × (f .one ≡ blank L)
+
+  first-refused : (f : Forked) → isStored L r ≡ false → Zeros Unlawful f → f ≡ forked L r
+  unfolding forked first unlawful
+  first-refused f e z = rw e (λ i. record { answer = z .0 i; zero = z .1 i; one = z .2 i })
+
+  abbrev tooLong : Bool
+  tooLong = any (λ t. eqb (length t) (L .digits)) (strsIn (r .id))
+
+  then-refused : (f : Forked) → isStored L r ≡ true → tooLong ≡ true → Zeros Long f → f ≡ forked L r
+  unfolding forked first unlawful long held
+  then-refused f e l z = rw (e, l) (λ i. record { answer = z .0 i; zero = z .1 i; one = z .2 i })
+
+  done : (i0 i1 : Words) → isStored L r ≡ true → tooLong ≡ false → i0 ≡ wordsOf L (append false (strsIn (r .id))) → i1 ≡ wordsOf L (append true (strsIn (r .id)))
+      → record { answer = Done; zero = record { update = r .update; id = i0 }; one = record { update = r .update; id = i1 } } ≡ forked L r
+  unfolding forked first unlawful long held fork stored
+  done i0 i1 e l p q =
+      let u = ap (λ (x : Record). x .update) (stored-is L r e) in
+      rw (e, l) (λ i. record { answer = Done; zero = record { update = u i; id = p i }; one = record { update = u i; id = q i } })
+
+is-lawful-requires : tie.Need-is-lawful-requires
+is-lawful-requires c κs = search needs
+
+no-fork-requires : tie.Need-no-fork-requires
+no-fork-requires c κs = search needs
+
+returns : tie.Need-returns
+returns c =
+    let a = c .before .before in
+    first-refused narrow (a .before .args .r) (c .no-fork .result) (sym (a .is-lawful .ensures) ∙ not-true _ (c .before .if1 .taken)) (c .no-fork .ensures)
+
+is-long-requires : tie.Need-is-long-requires
+is-long-requires c κs =
+    let a = c .before .before .before in
+    stored-names narrow (a .before .args .r) (sym (a .is-lawful .ensures) ∙ not-false _ (c .before .before .if1 .left)) .1
+
+no-fork-requires-2 : tie.Need-no-fork-requires-2
+no-fork-requires-2 c κs = search needs
+
+returns-2 : tie.Need-returns-2
+returns-2 c =
+    let l = c .before .before in
+    let o = l .before .before .before in
+    let a = o .before in
+    then-refused narrow (a .before .args .r) (c .no-fork2 .result) (sym (a .is-lawful .ensures) ∙ not-false _ (o .if1 .left))
+    (sym (l .is-long .ensures) ∙ c .before .if2 .taken) (c .no-fork2 .ensures)
+
+grown-requires : tie.Need-grown-requires
+grown-requires c κs =
+    let l = c .before in
+    let o = l .before .before .before in
+    let a = o .before in (
+      stored-names narrow (a .before .args .r) (sym (a .is-lawful .ensures) ∙ not-false _ (o .if1 .left)) .1,
+      sym (l .is-long .ensures) ∙ c .if2 .left,
+      omega arith,
+    )
+
+grown-requires-2 : tie.Need-grown-requires-2
+grown-requires-2 c κs =
+    let l = c .before .before in
+    let o = l .before .before .before in
+    let a = o .before in (
+      stored-names narrow (a .before .args .r) (sym (a .is-lawful .ensures) ∙ not-false _ (o .if1 .left)) .1,
+      sym (l .is-long .ensures) ∙ c .before .if2 .left,
+      omega arith,
+    )
+
+returns-3 : tie.Need-returns-3
+returns-3 c =
+    let n = c .before .before in
+    let l = n .before in
+    let o = l .before .before .before in
+    let a = o .before in
+    done narrow (a .before .args .r) (c .before .grown .result) (c .grown2 .result) (sym (a .is-lawful .ensures) ∙ not-false _ (o .if1 .left))
+    (sym (l .is-long .ensures) ∙ n .if2 .left) (c .before .grown .ensures) (c .grown2 .ensures)
+
+pub fork-spec : {M : Type 1} → statement M
+fork-spec =
+    tie.close
+    (tie.spec is-lawful-requires no-fork-requires returns is-long-requires no-fork-requires-2 returns-2 grown-requires grown-requires-2 returns-3)
