@@ -6,8 +6,13 @@ ghost use Rattle.rules.specs.Stored.{blank};
 ghost use Rattle.rules.specs.Bundles.{frontEntry, readEntry};
 ghost use Rattle.rules.specs.declared.Answer.the-variants.{Refused};
 ghost use Rattle.bundles.specs.Places.{placed, Inside, Begins};
-use packed::{read, BYTES};
-use rules::{Answer, Given, Record, Refusal, Words};
+use packed::BYTES;
+use packed::read;
+use rules::Answer;
+use rules::Given;
+use rules::Record;
+use rules::Refusal;
+use rules::Words;
 
 // A bundle has at most so many bytes.
 pub const ROOM: usize = 65536;
@@ -83,6 +88,12 @@ fn refused(why: Refusal) -> Given
 {
     let words = [0; 16];
     let none = Words { count: 0, words };
-    let stamp = Record { update: none, id: none };
-    Given { answer: Answer::Refused(why), stamp }
+    let stamp = Record {
+        update: none,
+        id: none,
+    };
+    Given {
+        answer: Answer::Refused(why),
+        stamp,
+    }
 }

@@ -84,8 +84,10 @@ module _ (L : Limits) (room : L .digits ≤ 58) where
       where
         x : Stamp
         x = fork false (held r)
+
         y : Stamp
         y = fork true (held r)
+
         by : (a : Answer) → first ((unlawful L r, Unlawful) ∷ (long L (held r), Long) ∷ []) ≡ a → branches L a x y .answer ≡ Done
             → (isStored L (branches L a x y .zero) ≡ true) × (isStored L (branches L a x y .one) ≡ true)
             × (length (packed L (held (branches L a x y .zero))) ≡ length (packed L (held (branches L a x y .one))))

@@ -2,14 +2,19 @@
 // Refusals come in the order 1 and 2 for the first stamp, 1 and 2 for the second, 8, 9, 6, 7, 10.
 ghost use mathlib.Core.Path.{_≡_};
 ghost use mathlib.Core.List.{[]};
-ghost use denote.Ref.{RefT};
 ghost use Rattle.rules.specs.Limits.{narrow};
 ghost use Rattle.rules.specs.Packed.{wrote, comparedAfter, packedUpdate, packedFork, packedJoin, packedCompare, sideOf};
 ghost use Rattle.rules.specs.declared.Verdict.the-variants.{Equal};
 ghost use Rattle.rules.specs.declared.Compared.the-variants.{Is};
 ghost use Rattle.calls.specs.Keep.{keptIs};
-use packed::{read, size, write};
-use rules::{Answer, Compared, Refusal, Verdict, Written};
+use packed::read;
+use packed::size;
+use packed::write;
+use rules::Answer;
+use rules::Compared;
+use rules::Refusal;
+use rules::Verdict;
+use rules::Written;
 
 // The stamp after an edit, into out.
 pub fn update(stamp: &[u8], out: &mut [u8]) -> Written
@@ -83,18 +88,18 @@ pub fn join(first: &[u8], second: &[u8], out: &mut [u8]) -> Written
 pub fn compare(first: &[u8], second: &[u8]) -> Compared
     ensures { λ c. ⌜ c ≡ packedCompare narrow (now (first .entry)) (now (second .entry)) ⌝ }
 {
-    let g = read(first);
-    let a = g.answer;
+    let p = read(first);
+    let a = p.answer;
     let Answer::Done = a else {
         return uncompared(a);
     };
-    let h = read(second);
-    let b = h.answer;
+    let q = read(second);
+    let b = q.answer;
     let Answer::Done = b else {
         return uncompared(b);
     };
-    let s = g.stamp;
-    let t = h.stamp;
+    let s = p.stamp;
+    let t = q.stamp;
     stamps::compare(s, t)
 }
 

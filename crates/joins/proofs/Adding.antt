@@ -85,7 +85,8 @@ over-add s (t ∷ n) x i = by (way s t n) (λ y h. over-add s n y h)
     by (before p e) ih = subst (Over x) (sym e) (self x (s ∷ t ∷ n) i)
     by (after p e) ih =
         subst (Over x) (sym e)
-        (⊎-elim (λ h. further x t (add s n) (ih x (inl h))) (λ h. ⊎-elim (λ k. self x (t ∷ add s n) (inl k)) (λ k. further x t (add s n) (ih x (inr k))) h) i)
+        (⊎-elim (λ h. further x t (add s n) (ih x (inl h)))
+        (λ h. ⊎-elim (λ k. self x (t ∷ add s n) (inl k)) (λ k. further x t (add s n) (ih x (inr k))) h) i)
 
 add-rising : (s : Str) (n : Name) → rising n ≡ true → rising (add s n) ≡ true
 unfolding passBy
@@ -96,9 +97,11 @@ add-rising s (t ∷ n) h = by (way s t n) (add-rising s n (rising-tail t n h))
     by (under p e) ih = rw e h
     by (over p e) ih = rw e ih
     by (before p e) ih =
-        rw e (rising-cons s (t ∷ n) (λ u i. ⊎-elim (λ k. subst (λ (y : Str). less s y ≡ true) (sym k) p) (λ k. less-trans s t u p (rising-head t n h u k)) i) h)
+        rw e
+        (rising-cons s (t ∷ n) (λ u i. ⊎-elim (λ k. subst (λ (y : Str). less s y ≡ true) (sym k) p) (λ k. less-trans s t u p (rising-head t n h u k)) i) h)
     by (after p e) ih =
-        rw e (rising-cons t (add s n) (λ u i. ⊎-elim (λ k. subst (λ (y : Str). less t y ≡ true) (sym k) p) (λ k. rising-head t n h u k) (add-in s n u i)) ih)
+        rw e
+        (rising-cons t (add s n) (λ u i. ⊎-elim (λ k. subst (λ (y : Str). less t y ≡ true) (sym k) p) (λ k. rising-head t n h u k) (add-in s n u i)) ih)
 
 -- ---- many strings added
 
@@ -123,7 +126,8 @@ unfolding addAll
 over-all [] n x i = self x n i
 over-all (s ∷ m) n x i =
     ⊎-elim (λ h. on (over-add s n x (inl h)) (λ y k. over-all m (add s n) y k))
-    (λ h. ⊎-elim (λ k. over-all m (add s n) x (in-left x m (add s n) k)) (λ k. on (over-add s n x (inr k)) (λ y k. over-all m (add s n) y k)) (in-append x m n h))
+    (λ h. ⊎-elim (λ k. over-all m (add s n) x (in-left x m (add s n) k))
+    (λ k. on (over-add s n x (inr k)) (λ y k. over-all m (add s n) y k)) (in-append x m n h))
     i
   where
     on : Over x (add s n) → ((y : Str) → In y (m ++ add s n) → Over y (addAll m (add s n))) → Over x (addAll m (add s n))

@@ -21,9 +21,9 @@ use Rattle.laws.proofs.Words.{str-word, str-length, word-grown}
 use Rattle.laws.proofs.Lawful.{Short}
 use Rattle.joins.specs.declared.Found.{Found}
 use Rattle.joins.specs.declared.Found.the-variants.{At, Nothing}
-use Rattle.joins.specs.Passes.{run}
+use Rattle.joins.specs.Runs.{run}
 use Rattle.joins.specs.Working.{foundW}
-use Rattle.joins.proofs.Passes.{run-more}
+use Rattle.joins.proofs.Runs.{run-more}
 use Rattle.joins.proofs.Strings.{grown-length}
 
 -- a string that has a sibling has a digit
@@ -78,7 +78,8 @@ unfolding foundW firstTwins foundOf
 found-twins [] h k = refl
 found-twins (s ∷ []) h k = refl
 found-twins (s ∷ t ∷ n) h k =
-    ap (λ (b : Bool). cond b (At (wordOf s - 1)) (foundW (map wordOf (t ∷ n)))) (ap₂ siblings (str-word s (k s (inl refl))) (str-word t (k t (inr (inl refl)))))
+    ap (λ (b : Bool). cond b (At (wordOf s - 1)) (foundW (map wordOf (t ∷ n))))
+    (ap₂ siblings (str-word s (k s (inl refl))) (str-word t (k t (inr (inl refl)))))
     ∙ by (siblings s t) refl (found-twins (t ∷ n) (rising-tail s (t ∷ n) h) (λ x i. k x (inr i)))
   where
     root : siblings s t ≡ true → wordOf s - 1 ≡ wordOf (dropLast s)

@@ -1,4 +1,5 @@
 -- Laws that several proofs cite.
+pub mod Runs
 pub mod Passes
 pub mod Shapes
 pub mod Strings

@@ -28,8 +28,8 @@ use Rattle.laws.proofs.Lawful.{Short, parts-name, Lawful, lawful-parts, lawful-
 use Rattle.laws.proofs.Stored.{words-refl, stored-lawful, stored-is}
 use Rattle.joins.specs.declared.Wide.{Wide}
 use Rattle.joins.specs.declared.Both.{Both}
-use Rattle.joins.specs.Passes.{front}
-use Rattle.joins.specs.Working.{words, wideOf, bothOf, strs, stampIn, Sized, Ready}
+use Rattle.joins.specs.Runs.{room, front, words}
+use Rattle.joins.specs.Working.{wideOf, bothOf, strs, stampIn, Sized, Ready}
 use Rattle.joins.proofs.Shapes.{words-stored, wide-words, wide-strs, wide-count}
 use Rattle.joins.proofs.Reducing.{few-update}
 
@@ -70,15 +70,17 @@ module _ (a b : Record) (ha : isStored narrow a ≡ true) (hb : isStored narrow 
       let p = lawful-named a ha in
       let q = lawful-named b hb in
       record {
-        proper = unite-proper (held a) (held b) (lawful-proper narrow (held a) (stored-lawful narrow a ha)) (lawful-proper narrow (held b) (stored-lawful narrow b hb));
-        shortUpdate = union-short 24 (held a .update) (held b .update) (p .updateNamed .short) (q .updateNamed .short);
-        shortId = union-short 24 (held a .id) (held b .id) (p .idNamed .short) (q .idNamed .short);
+        proper = unite-proper (held a) (held b) (lawful-proper narrow (held a) (stored-lawful narrow a ha))
+            (lawful-proper narrow (held b) (stored-lawful narrow b hb));
+        shortUpdate = union-short (narrow .digits) (held a .update) (held b .update) (p .updateNamed .short) (q .updateNamed .short);
+        shortId = union-short (narrow .digits) (held a .id) (held b .id) (p .idNamed .short) (q .idNamed .short);
         few = omega (arith, union-few (held a .id) (held b .id), p .idNamed .few, q .idNamed .few);
       }
 
   -- what the two unions leave
-  module _ (u i : Wide) (eu : u ≡ wideOf (union (strsIn (a .update)) (strsIn (b .update)))) (ei : i ≡ wideOf (union (strsIn (a .id)) (strsIn (b .id)))) where
-    told : (w : Wide) (n : Name) → length n ≤ 32 → Short 24 n → w ≡ wideOf n → strs w ≡ n
+  module _ (u i : Wide) (eu : u ≡ wideOf (union (strsIn (a .update)) (strsIn (b .update))))
+      (ei : i ≡ wideOf (union (strsIn (a .id)) (strsIn (b .id)))) where
+    told : (w : Wide) (n : Name) → length n ≤ room → Short (narrow .digits) n → w ≡ wideOf n → strs w ≡ n
     told w n few short e = ap strs e ∙ wide-strs n few (λ s k. le-trans (short s k) (omega arith))
 
     update-told : strs u ≡ x .update
@@ -116,17 +118,20 @@ module _ (a b : Record) (ha : isStored narrow a ≡ true) (hb : isStored narrow 
     unfolding bothOf
     update-fits = omega (arith, join-counts, ap (λ (y : Both). y .update .count) e, wide-count (j .update), id-count)
 
-    pub too-many : (g : Given) → 16 < r .id .count → g ≡ record { answer = Refused Many; stamp = blank narrow } → g ≡ given narrow (first ((many narrow j, Many) ∷ [])) j
+    pub too-many : (g : Given) → narrow .strings < r .id .count → g ≡ record { answer = Refused Many; stamp = blank narrow }
+        → g ≡ given narrow (first ((many narrow j, Many) ∷ [])) j
     unfolding first many
-    too-many g h f = f ∙ sym (ap (λ (t : Bool). given narrow (cond t (Refused Many) Done) j) (lt-ltb 16 (length (j .id)) (omega (arith, id-count))))
+    too-many g h f = f ∙ sym (ap (λ (t : Bool). given narrow (cond t (Refused Many) Done) j) (lt-ltb (narrow .strings) (length (j .id)) (omega (arith, id-count))))
 
-    pub few-enough : (u i : Words) → r .id .count ≤ 16 → u ≡ words (front (r .update .words) (r .update .count)) → i ≡ words (front (r .id .words) (r .id .count))
+    pub few-enough : (u i : Words) → r .id .count ≤ narrow .strings → u ≡ words (front (r .update .words) (r .update .count))
+        → i ≡ words (front (r .id .words) (r .id .count))
         → record { answer = Done; stamp = record { update = u; id = i } } ≡ given narrow (first ((many narrow j, Many) ∷ [])) j
     unfolding first many stored bothOf
     few-enough u i h p q =
-        let c : length (j .id) ≤ 16 = omega (arith, id-count) in
-        let kept : (n : Name) → length n ≤ 16 → words (front (wideOf n .words) (wideOf n .count)) ≡ wordsOf narrow n = λ n k. ap words (wide-words n (omega arith)) ∙ words-stored n k in
+        let c : length (j .id) ≤ narrow .strings = omega (arith, id-count) in
+        let kept : (n : Name) → length n ≤ narrow .strings → words (front (wideOf n .words) (wideOf n .count)) ≡ wordsOf narrow n =
+        λ n k. ap words (wide-words n (omega arith)) ∙ words-stored n k in
         let v = p ∙ ap (λ (y : Both). words (front (y .update .words) (y .update .count))) e ∙ kept (j .update) (omega (arith, join-counts)) in
         let w = q ∙ ap (λ (y : Both). words (front (y .id .words) (y .id .count))) e ∙ kept (j .id) c in
         (λ k. record { answer = Done; stamp = record { update = v k; id = w k } })
-        ∙ sym (ap (λ (t : Bool). given narrow (cond t (Refused Many) Done) j) (le-ltb 16 (length (j .id)) c))
+        ∙ sym (ap (λ (t : Bool). given narrow (cond t (Refused Many) Done) j) (le-ltb (narrow .strings) (length (j .id)) c))

@@ -8,6 +8,7 @@ use Prim.Native.Nat.{suc, _≤_}
 use native.Mathlib.Nat.{le-trans}
 use native.Mathlib.Omega.{arith}
 use lib.ListN.{length}
+use Rattle.rules.specs.Limits.{narrow}
 use Rattle.rules.specs.Strings.{Str, _▹_, wordOf}
 use Rattle.rules.specs.Names.{Name, rising}
 use Rattle.rules.specs.Stamps.{Stamp, pair, settle, settled, reduce}
@@ -21,7 +22,8 @@ use Rattle.laws.proofs.Lawful.{Short}
 use Rattle.joins.specs.declared.Both.{Both}
 use Rattle.joins.specs.declared.Found.{Found}
 use Rattle.joins.specs.declared.Found.the-variants.{At, Nothing}
-use Rattle.joins.specs.Passes.{front, wide, passW}
+use Rattle.joins.specs.Runs.{room, front, wide}
+use Rattle.joins.specs.Passes.{passW}
 use Rattle.joins.specs.Working.{foundW, steppedBy, stepped, wideOf, bothOf, Sized}
 use Rattle.joins.proofs.Shapes.{wide-words, wide-count}
 use Rattle.joins.proofs.Strings.{pass-words, grown-length}
@@ -29,16 +31,16 @@ use Rattle.joins.proofs.Settling.{pass-settle}
 use Rattle.joins.proofs.Finding.{found-none, found-some}
 
 module _ (x : Stamp) (z : Sized x) where
-  pub few-update : length (x .update) ≤ 32
+  pub few-update : length (x .update) ≤ room
   few-update = le-trans (count-below (x .update) (x .id) (z .proper .updateRising) (z .proper .belowId)) (z .few)
 
-  pub both-counts : (b : Bool) → (bothOf b x .update .count ≤ 32) × (bothOf b x .id .count ≤ 32)
+  pub both-counts : (b : Bool) → (bothOf b x .update .count ≤ room) × (bothOf b x .id .count ≤ room)
   unfolding bothOf
   both-counts b = (omega (arith, wide-count (x .update), few-update), omega (arith, wide-count (x .id), z .few))
 
 -- ---- one name settled
 
-pub settle-words : (s : Str) (n : Name) → length s ≤ 58 → Short 58 n → length n ≤ 32 → rising n ≡ true → rising (settle s n) ≡ true
+pub settle-words : (s : Str) (n : Name) → length s ≤ 58 → Short 58 n → length n ≤ room → rising n ≡ true → rising (settle s n) ≡ true
     → wide (passW false (wordOf s) (front (wideOf n .words) (wideOf n .count))) ≡ wideOf (settle s n)
 unfolding wideOf
 settle-words s n hs hn few h r =
@@ -52,8 +54,8 @@ pub data Outcome (x : Stamp) (r : Both) : Type 0 where
   stepped-on : (y : Stamp) → Sized y → suc (length (y .id)) ≡ length (x .id) → reduce y ≡ reduce x → r ≡ bothOf true y → Outcome x r
 
 module _ (x : Stamp) (z : Sized x) where
-  -- 24 digits leave room in a word
-  roomy : (n : Name) → Short 24 n → Short 58 n
+  -- the digits leave room in a word
+  roomy : (n : Name) → Short (narrow .digits) n → Short 58 n
   roomy n h s i = le-trans (h s i) (omega arith)
 
   finds : {f : Found} → foundW (map wordOf (x .id)) ≡ f → stepped (bothOf true x) ≡ steppedBy f (bothOf true x)
@@ -61,15 +63,15 @@ module _ (x : Stamp) (z : Sized x) where
   finds e = ap (λ (f : Found). steppedBy f (bothOf true x)) (ap foundW (wide-words (x .id) (z .few)) ∙ e)
 
   module _ (s : Str) (zero-in : In (s ▹ false) (x .id)) (one-in : In (s ▹ true) (x .id)) where
-    root-short : length s ≤ 24
+    root-short : length s ≤ narrow .digits
     root-short = omega (arith, z .shortId (s ▹ false) zero-in, grown-length s false)
 
     settled-sized : Sized (settled s x)
     unfolding settled
     settled-sized = record {
       proper = settled-proper s x (z .proper) zero-in one-in;
-      shortUpdate = settle-short 24 s (x .update) (z .shortUpdate);
-      shortId = settle-short 24 s (x .id) (z .shortId);
+      shortUpdate = settle-short (narrow .digits) s (x .update) (z .shortUpdate);
+      shortId = settle-short (narrow .digits) s (x .id) (z .shortId);
       few = omega (arith, settled-shorter s x (z .proper) zero-in one-in, z .few);
     }
 
@@ -93,5 +95,6 @@ module _ (x : Stamp) (z : Sized x) where
       by none f = ended f (e ∙ finds (found-none (x .id) (z .proper .idRising) (roomy (x .id) (z .shortId)) f) ∙ unchanged)
       by (some s) f =
           let i = pair-in (x .id) s f in
-          stepped-on (settled s x) (settled-sized s (i .0) (i .1)) (settled-shorter s x (z .proper) (i .0) (i .1)) (reduce-settled s x (z .proper) (i .0) (i .1))
+          stepped-on (settled s x) (settled-sized s (i .0) (i .1)) (settled-shorter s x (z .proper) (i .0) (i .1))
+          (reduce-settled s x (z .proper) (i .0) (i .1))
           (e ∙ settles s (i .0) (i .1) (finds (found-some (x .id) s (z .proper .idRising) (roomy (x .id) (z .shortId)) f)))

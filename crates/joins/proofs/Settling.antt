@@ -28,13 +28,16 @@ left-out s [] = refl
 left-out s (t ∷ n) = by (isGrown s t) (left-out s n)
   where
     by : (b : Bool) → settleFrom s true n ≡ keep (isOther s) n
-        → opt (settledBy true b .first) s ++ (opt (settledBy true b .keep) t ++ settleFrom s (settledBy true b .placed) n) ≡ cond (not b) (t ∷ keep (isOther s) n) (keep (isOther s) n)
+        → opt (settledBy true b .first) s ++ (opt (settledBy true b .keep) t ++ settleFrom s (settledBy true b .placed) n)
+        ≡ cond (not b) (t ∷ keep (isOther s) n) (keep (isOther s) n)
     by true ih = ih
     by false ih = ap (λ (l : Name). t ∷ l) ih
 
 data Turning (s t : Str) (n : Name) : Type 0 where
-  grown : isGrown s t ≡ true → settleFrom s false (t ∷ n) ≡ s ∷ keep (isOther s) n → keep (isOther s) (t ∷ n) ≡ keep (isOther s) n → Turning s t n
-  other : isGrown s t ≡ false → settleFrom s false (t ∷ n) ≡ t ∷ settleFrom s false n → keep (isOther s) (t ∷ n) ≡ t ∷ keep (isOther s) n → Turning s t n
+  grown : isGrown s t ≡ true → settleFrom s false (t ∷ n) ≡ s ∷ keep (isOther s) n
+      → keep (isOther s) (t ∷ n) ≡ keep (isOther s) n → Turning s t n
+  other : isGrown s t ≡ false → settleFrom s false (t ∷ n) ≡ t ∷ settleFrom s false n
+      → keep (isOther s) (t ∷ n) ≡ t ∷ keep (isOther s) n → Turning s t n
 
 turning : (s t : Str) (n : Name) → Turning s t n
 unfolding passBy turnS keep
@@ -117,7 +120,8 @@ module _ (s : Str) where
           let on : (d : Bool) → In (s ▹ d) n → less t s ≡ true = λ d i. less-under s t d (rising-head t n h (s ▹ d) i) (b t (inl refl) e) in
           ⊎-elim (on false) (on true) k
 
-      by : Turning s t n → (Held s n → settleFrom s false n ≡ insert s (keep (isOther s) n)) → settleFrom s false (t ∷ n) ≡ insert s (keep (isOther s) (t ∷ n))
+      by : Turning s t n → (Held s n → settleFrom s false n ≡ insert s (keep (isOther s) n))
+          → settleFrom s false (t ∷ n) ≡ insert s (keep (isOther s) (t ∷ n))
       by (grown e f g) ih = f ∙ sym (ap (insert s) g ∙ insert-first s (keep (isOther s) n) (behind e))
       by (other e f g) ih =
           let k = tail-held (not-grown t e) in
@@ -141,7 +145,8 @@ module _ (s : Str) where
       beside k t i e = not-true (λ p.
           let q : s ≡ t = rising-antichain (settle s n) r s t (in-settle s n s (inr (refl, k))) (in-settle s n t (inl (i, not-grown t e))) p in
           let apart : (d : Bool) → In (s ▹ d) n → ⊥ = λ d j.
-          clash (prefix-refl s) (subst (λ (x : Str). prefix x s ≡ false) (sym (rising-antichain n h s (s ▹ d) (rw q i) j (prefix-grown s d))) (grown-not-prefix s d)) in
+          clash (prefix-refl s)
+          (subst (λ (x : Str). prefix x s ≡ false) (sym (rising-antichain n h s (s ▹ d) (rw q i) j (prefix-grown s d))) (grown-not-prefix s d)) in
           ⊎-elim (apart false) (apart true) k)
 
       by : Way s n → passS false s n ≡ settle s n

@@ -14,9 +14,9 @@ use Rattle.rules.specs.declared.Words.{Words}
 use Rattle.laws.proofs.Words.{str-word}
 use Rattle.laws.proofs.Lawful.{Short, Named, name-parts}
 use Rattle.laws.proofs.Stored.{stored-name, stored-name-is}
-use Rattle.joins.specs.Passes.{front}
-use Rattle.joins.specs.Working.{words, wideOf, strs}
-use Rattle.joins.proofs.Passes.{front-append, front-wide, sets-zeros}
+use Rattle.joins.specs.Runs.{room, front, words}
+use Rattle.joins.specs.Working.{wideOf, strs}
+use Rattle.joins.proofs.Runs.{front-append, front-wide, sets-zeros}
 
 -- ---- a name's record
 
@@ -28,21 +28,22 @@ module _ (w : Words) (h : isStoredName narrow w ≡ true) where
   unfolding wordsOf
   stored-count = ap (λ (x : Words). x .count) (stored-name-is narrow w h)
 
-  pub stored-few : w .count ≤ 16
+  pub stored-few : w .count ≤ narrow .strings
   stored-few = omega (arith, stored-count, stored-named .few)
 
   pub stored-words : front (w .words) (w .count) ≡ map wordOf (strsIn w)
   unfolding wordsOf
   stored-words =
-      ap₂ (λ (ws : List ℕ) (c : ℕ). front ws c) (ap (λ (x : Words). x .words) (stored-name-is narrow w h)) (stored-count ∙ sym (length-map (strsIn w) wordOf))
-      ∙ front-append (map wordOf (strsIn w)) (replicate (16 - length (strsIn w)) 0)
+      ap₂ (λ (ws : List ℕ) (c : ℕ). front ws c) (ap (λ (x : Words). x .words) (stored-name-is narrow w h))
+      (stored-count ∙ sym (length-map (strsIn w) wordOf))
+      ∙ front-append (map wordOf (strsIn w)) (replicate (narrow .strings - length (strsIn w)) 0)
 
 -- what is copied into a name's record is the stored shape
-pub words-stored : (n : Name) → length n ≤ 16 → words (map wordOf n) ≡ wordsOf narrow n
+pub words-stored : (n : Name) → length n ≤ narrow .strings → words (map wordOf n) ≡ wordsOf narrow n
 unfolding wordsOf
 words-stored n h =
     let p = length-map n wordOf in
-    let q = sets-zeros 16 (map wordOf n) (omega (arith, p)) ∙ ap (λ (k : ℕ). map wordOf n ++ replicate (16 - k) 0) p in
+    let q = sets-zeros (narrow .strings) (map wordOf n) (omega (arith, p)) ∙ ap (λ (k : ℕ). map wordOf n ++ replicate (narrow .strings - k) 0) p in
     λ i. record { count = p i; words = q i }
 
 -- ---- a working name
@@ -51,7 +52,7 @@ strs-words : (n : Name) → Short 58 n → map strOf (map wordOf n) ≡ n
 strs-words [] h = refl
 strs-words (s ∷ n) h = ap₂ (λ (t : Str) (l : Name). t ∷ l) (str-word s (h s (inl refl))) (strs-words n (λ t i. h t (inr i)))
 
-module _ (n : Name) (few : length n ≤ 32) where
+module _ (n : Name) (few : length n ≤ room) where
   pub wide-words : front (wideOf n .words) (wideOf n .count) ≡ map wordOf n
   unfolding wideOf
   wide-words = front-wide (map wordOf n) (omega (arith, length-map n wordOf))

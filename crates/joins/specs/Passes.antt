@@ -1,13 +1,10 @@
 -- One pass over a working name, on lists of words: s is added as the union adds it, or is put in the place of s0 and s1.
 use mathlib.Core.Bool.{Bool, true, false, cond, not, _&&_}
 use mathlib.Core.List.{List, [], _∷_, _++_}
-use Prim.Native.Nat.{ℕ, zero, suc, _+_, _%_}
+use Prim.Native.Nat.{ℕ, _+_, _%_}
 use lib.Dec.{eqb, ltb}
-use lib.ListN.{length, getD, replicate}
-use lib.Seq.{sets}
 use Rattle.rules.specs.Strings.{prefix, strOf, lengths}
 use Rattle.joins.specs.declared.Turn.{Turn}
-use Rattle.joins.specs.declared.Wide.{Wide}
 
 -- x, or nothing
 abbrev pub opt : {A : Type 0} → Bool → A → List A
@@ -53,15 +50,3 @@ passBy turn adding s p (t ∷ l) =
 
 abbrev pub passW : Bool → ℕ → List ℕ → List ℕ
 passW adding s l = passBy (turnOf adding s) adding s false l
-
--- c words from index i on; no length is asked
-unfoldable pub run : List ℕ → ℕ → ℕ → List ℕ
-run ws i zero = []
-run ws i (suc c) = getD ws i 0 ∷ run ws (suc i) c
-
-abbrev pub front : List ℕ → ℕ → List ℕ
-front ws c = run ws 0 c
-
--- the working name that holds these words, and zeros behind them
-abbrev pub wide : List ℕ → Wide
-wide l = record { count = length l; words = sets (replicate 32 0) 0 l }

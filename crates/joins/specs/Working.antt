@@ -3,19 +3,19 @@ use mathlib.Core.Path.{_≡_}
 use mathlib.Core.Bool.{Bool, true, false, cond}
 use mathlib.Core.List.{List, [], _∷_, map}
 use Prim.Native.Nat.{ℕ, _-_, _≤_}
-use lib.ListN.{length, replicate}
-use lib.Seq.{sets}
+use lib.ListN.{length}
+use Rattle.rules.specs.Limits.{narrow}
 use Rattle.rules.specs.Strings.{wordOf, strOf, siblings}
 use Rattle.rules.specs.Names.{Name}
 use Rattle.rules.specs.Stamps.{Stamp}
-use Rattle.rules.specs.declared.Words.{Words}
 use Rattle.laws.proofs.Steps.{Proper}
 use Rattle.laws.proofs.Lawful.{Short}
 use Rattle.joins.specs.declared.Wide.{Wide}
 use Rattle.joins.specs.declared.Both.{Both}
 use Rattle.joins.specs.declared.Found.{Found}
 use Rattle.joins.specs.declared.Found.the-variants.{At, Nothing}
-use Rattle.joins.specs.Passes.{passW, front, wide}
+use Rattle.joins.specs.Runs.{room, front, wide}
+use Rattle.joins.specs.Passes.{passW}
 
 -- ---- on words
 
@@ -38,10 +38,6 @@ steppedBy (At s) x =
 unfoldable pub stepped : Both → Both
 stepped x = steppedBy (foundW (front (x .id .words) (x .id .count))) x
 
--- the name's record that holds these words, and zeros behind them
-abbrev pub words : List ℕ → Words
-words l = record { count = length l; words = sets (replicate 16 0) 0 l }
-
 -- ---- on strings
 
 unfoldable pub wideOf : Name → Wide
@@ -60,9 +56,9 @@ stampIn u i = record { update = strs u; id = strs i }
 -- what reduction needs of a stamp: names that rise, u below i, and no more than working names have room for
 pub record Sized (x : Stamp) : Type 0 where
   pub proper : Proper x
-  pub shortUpdate : Short 24 (x .update)
-  pub shortId : Short 24 (x .id)
-  pub few : length (x .id) ≤ 32
+  pub shortUpdate : Short (narrow .digits) (x .update)
+  pub shortId : Short (narrow .digits) (x .id)
+  pub few : length (x .id) ≤ room
 
 -- two working names that are those of such a stamp
 pub record Ready (u i : Wide) : Type 0 where

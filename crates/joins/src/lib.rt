@@ -14,8 +14,9 @@ ghost use Rattle.rules.specs.Refusals.{first, many};
 ghost use Rattle.rules.specs.Values.{given, joined};
 ghost use Rattle.rules.specs.declared.Refusal.the-variants.{Many};
 ghost use Rattle.rules.specs.declared.Answer.the-variants.{Refused};
-ghost use Rattle.joins.specs.Passes.{opt, turnOf, addedTurn, settledTurn, passW, front, wide};
-ghost use Rattle.joins.specs.Working.{foundW, stepped, words, wideOf, bothOf, stampIn, Ready};
+ghost use Rattle.joins.specs.Runs.{front, room, wide, words};
+ghost use Rattle.joins.specs.Passes.{opt, turnOf, addedTurn, settledTurn, passW};
+ghost use Rattle.joins.specs.Working.{foundW, stepped, wideOf, bothOf, stampIn, Ready};
 use names::STRINGS;
 use rules::Answer;
 use rules::Given;
@@ -26,10 +27,13 @@ use stamps::meet;
 use strings::are_siblings;
 use strings::is_prefix;
 
-// A working name: room for the strings of two names.
+// A working name has room for the strings of two names.
+const ROOM: usize = 32;
+
+// A working name, as a name is stored.
 struct Wide {
     count: usize,
-    words: [u64; 32],
+    words: [u64; ROOM],
 }
 
 // What a pass does at one string of a name: is s written before it, is it kept, is s written by then.
@@ -96,7 +100,7 @@ fn merged(a: Record, b: Record) -> Given
 fn refused(r: Refusal) -> Given
     ensures { λ g. ⌜ g ≡ record { answer = Refused r; stamp = blank narrow } ⌝ }
 {
-    let w = [0; 16];
+    let w = [0; STRINGS];
     let n = Words { count: 0, words: w };
     let z = Record { update: n, id: n };
     Given {
@@ -122,11 +126,11 @@ fn unite(m: Words, n: Words) -> Wide
 
 // A name as a working name.
 fn widen(n: Words) -> Wide
-    requires { ⌜ n .count ≤ 16 ⌝ }
+    requires { ⌜ n .count ≤ narrow .strings ⌝ }
     ensures { λ r. ⌜ r ≡ wide (front (n .words) (n .count)) ⌝ }
 {
     let c = n.count;
-    let w = [0; 32];
+    let w = [0; ROOM];
     let mut out = Wide { count: c, words: w };
     let mut i = 0;
     while i < c {
@@ -138,11 +142,11 @@ fn widen(n: Words) -> Wide
 
 // A working name of no more strings than a name has, as a name.
 fn narrowed(n: Wide) -> Words
-    requires { ⌜ n .count ≤ 16 ⌝ }
+    requires { ⌜ n .count ≤ narrow .strings ⌝ }
     ensures { λ r. ⌜ r ≡ words (front (n .words) (n .count)) ⌝ }
 {
     let c = n.count;
-    let w = [0; 16];
+    let w = [0; STRINGS];
     let mut out = Words { count: c, words: w };
     let mut i = 0;
     while i < c {
@@ -170,7 +174,7 @@ fn reduce(u: Wide, i: Wide) -> Both
 
 // One step of reduction: where the id holds s0 and s1, s is put in their place in both names.
 fn step(x: Both) -> Both
-    requires { ⌜ (x .update .count ≤ 32) × (x .id .count ≤ 32) ⌝ }
+    requires { ⌜ (x .update .count ≤ room) × (x .id .count ≤ room) ⌝ }
     ensures { λ r. ⌜ r ≡ stepped x ⌝ }
 {
     let u = x.update;
@@ -196,7 +200,7 @@ fn step(x: Both) -> Both
 
 // The s of the first two neighbours that are s0 and s1: the word of s0 less one.
 fn find(n: Wide) -> Found
-    requires { ⌜ n .count ≤ 32 ⌝ }
+    requires { ⌜ n .count ≤ room ⌝ }
     ensures { λ r. ⌜ r ≡ foundW (front (n .words) (n .count)) ⌝ }
 {
     let c = n.count;
@@ -213,11 +217,11 @@ fn find(n: Wide) -> Found
 
 // One pass over n: s is added, or it is put in the place of s0 and s1.
 fn pass(n: Wide, s: u64, adding: bool) -> Wide
-    requires { ⌜ n .count + digit adding ≤ 32 ⌝ }
+    requires { ⌜ n .count + digit adding ≤ room ⌝ }
     ensures { λ r. ⌜ r ≡ wide (passW adding s (front (n .words) (n .count))) ⌝ }
 {
     let c = n.count;
-    let w = [0; 32];
+    let w = [0; ROOM];
     let mut out = Wide { count: 0, words: w };
     let mut placed = false;
     let mut i = 0;
@@ -303,7 +307,7 @@ fn settled(s: u64, t: u64, placed: bool) -> Turn
 
 // One word more, or none.
 fn push(out: Wide, yes: bool, x: u64) -> Wide
-    requires { ⌜ out .count + digit yes ≤ 32 ⌝ }
+    requires { ⌜ out .count + digit yes ≤ room ⌝ }
     ensures { λ r. ⌜ (r .count ≡ out .count + length (opt yes x)) × (r .words ≡ sets (out .words) (out .count) (opt yes x)) ⌝ }
 {
     if yes {

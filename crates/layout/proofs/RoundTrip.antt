@@ -1,16 +1,14 @@
 -- Packed stamps and bytes that read are one to one. Writing then reading gives a lawful stamp back, and no other stamp has its bytes;
 -- reading then writing gives the bytes back, and no other bytes read as that stamp. Assumes nothing.
-use mathlib.Core.Path.{_≡_, refl, sym, ap, ap₂, _∙_}
+use mathlib.Core.Path.{_≡_, refl, sym, ap, _∙_}
 use mathlib.Core.Bool.{Bool, true, false}
-use mathlib.Core.List.{List, [], _∷_, map}
+use mathlib.Core.List.{List}
 use mathlib.Core.Option.{Option, none, some, Option·none-ne-some, Option·some-injective}
-use Prim.Native.Nat.{ℕ, _-_, _^_, _≤_}
-use native.Mathlib.Omega.{arith}
-use lib.Dec.{lit≤}
-use lib.ListN.{length, replicate, length-map}
-use lib.Seq.{take-at}
+use Prim.Native.Nat.{ℕ, _^_, _≤_}
+use lib.Dec.{leb, lit≤}
+use borrow.Author.Tests.{leb-true}
+use lib.ListN.{length}
 use Rattle.rules.specs.Limits.{Limits, narrow}
-use Rattle.rules.specs.Strings.{Str, wordOf, strOf}
 use Rattle.rules.specs.Names.{Name, isName}
 use Rattle.rules.specs.Stamps.{Stamp, lawful}
 use Rattle.rules.specs.Stored.{wordsOf, stored, strsIn, held}
@@ -19,11 +17,11 @@ use Rattle.rules.specs.Packed.{stampBits, packed, bitsOf, Taken, takeStamp, isF
 use Rattle.rules.specs.Promises.{WriteRead, ReadWrite}
 use Rattle.rules.specs.declared.Answer.{Answer}
 use Rattle.rules.specs.declared.Answer.the-variants.{Done, Refused}
-use Rattle.laws.proofs.Words.{str-word}
-use Rattle.laws.proofs.Tests.{no}
+use Rattle.laws.proofs.Tests.{no, all-each}
+use Rattle.laws.proofs.Stored.{strs-of-words, held-stored}
 use Rattle.layout.proofs.Bytes.{areBytes, fillingOf, packed-bits, filling-is, pack-of-bits}
 use Rattle.layout.proofs.Fields.{let-through}
-use Rattle.layout.proofs.Names.{Fitting, narrow-fits, allShort, named, lawful-names, short-head, short-tail, stamp-back, took-stamp, took-names}
+use Rattle.layout.proofs.Names.{Fitting, narrow-fits, allShort, lawful-names, stamp-back, took-stamp, took-names}
 
 isDone : Answer → Bool
 isDone Done = true
@@ -90,29 +88,15 @@ module _ (L : Limits) where
   -- ---- the record that was read
 
   module _ (room : L .digits ≤ 58) where
-    strs-words : (n : Name) → allShort L n ≡ true → map strOf (map wordOf n) ≡ n
-    strs-words [] h = refl
-    strs-words (s ∷ n) h =
-        ap₂ (λ (x : Str) (l : Name). x ∷ l) (str-word s (omega (arith, short-head L s n h))) (strs-words n (short-tail L s n h))
-
     -- a name's record tells the name
     pub strs-in : (n : Name) → allShort L n ≡ true → strsIn (wordsOf L n) ≡ n
-    unfolding strsIn wordsOf
-    strs-in n h =
-        ap (map strOf) (take-at (map wordOf n) (replicate (L .strings - length n) 0) (length n) (length-map n wordOf)) ∙ strs-words n h
-
-    -- a stamp's record tells the stamp
-    pub held-stored : (s : Stamp) → lawful L s ≡ true → held (stored L s) ≡ s
-    unfolding held stored
-    held-stored s h =
-        let n = lawful-names L s h in
-        λ i. record { update = strs-in (s .update) (named L (s .update) (n .0) .short) i; id = strs-in (s .id) (named L (s .id) (n .1) .short) i }
+    strs-in n h = strs-of-words L room n (λ s i. leb-true (length s) (L .digits) (all-each (λ t. leb (length t) (L .digits)) n h s i))
 
     -- "for all accepted bytes read then write gives the bytes back"
     pub read-write : ReadWrite L
     unfolding readStamp
     read-write b h e =
-        accepted (unpacked L b) e (λ s told p q. ap (λ r. packed L (held r)) q ∙ ap (packed L) (held-stored s p) ∙ packed-unpacked b s h told)
+        accepted (unpacked L b) e (λ s told p q. ap (λ r. packed L (held r)) q ∙ ap (packed L) (held-stored L room s p) ∙ packed-unpacked b s h told)
 
 -- ---- the limits in force
 

@@ -1,7 +1,7 @@
 // One packed stamp: read from bytes of any content, and written into a lent buffer.
 ghost use mathlib.Core.Path.{_≡_};
 ghost use mathlib.Core.Bool.{true, false, cond};
-ghost use Prim.Native.Nat.{ℕ, _≤_, _<_, _+_, _*_, _-_, _^_, min};
+ghost use Prim.Native.Nat.{_≤_, _<_, _+_, _*_, _-_, _^_, min};
 ghost use lib.ListN.{length, take, drop, replicate};
 ghost use Rattle.rules.specs.Limits.{narrow};
 ghost use Rattle.rules.specs.Strings.{value, field, strOf};
@@ -9,12 +9,24 @@ ghost use Rattle.rules.specs.Stored.{strsIn, held, blank, isStoredName, isStore
 ghost use Rattle.rules.specs.Packed.{bitsOf, stringBits, nameBits, packed, over, isFilling, readStamp, writtenStamp};
 ghost use Rattle.rules.specs.declared.Answer.the-variants.{Refused};
 ghost use Rattle.packed.specs.Cursors.{StringAt, NameAt, Ready, Put};
-use rules::{Answer, Given, Record, Refusal, Words, Written};
+use rules::Answer;
+use rules::Given;
+use rules::Record;
+use rules::Refusal;
+use rules::Words;
+use rules::Written;
 use stamps::is_lawful;
-use strings::{comes_before, DIGITS};
+use strings::DIGITS;
+use strings::comes_before;
 
 // A packed stamp has at most so many bytes.
 pub const BYTES: usize = 117;
+
+// Bits of a name's count, less one.
+const COUNT_BITS: usize = 4;
+
+// Bits of a string's length.
+const LENGTH_BITS: usize = 5;
 
 // The stamp that b packs: refused 1 where the layout does not read, 2 where the stamp is not lawful; then all zeros.
 pub fn read(b: &[u8]) -> Given
@@ -40,7 +52,10 @@ pub fn read(b: &[u8]) -> Given
     if !is_lawful(stamp) {
         return refused(Refusal::Unlawful);
     }
-    Given { answer: Answer::Done, stamp }
+    Given {
+        answer: Answer::Done,
+        stamp,
+    }
 }
 
 // The bytes of r at the front of out, and the rest kept: refused 2 where r is unlawful, 10 where out is too short; then nothing is written.
@@ -62,21 +77,13 @@ pub fn write(r: Record, out: &mut [u8]) -> Written
 pub fn size(r: Record) -> usize
     ensures { λ n. ⌜ n ≡ cond (isStored narrow r) (length (packed narrow (held r))) 0 ⌝ }
 {
-    if is_lawful(r) {
-        return bytes_of(r);
+    if !is_lawful(r) {
+        return 0;
     }
-    0
+    bytes_of(r)
 }
 
-// No stamp, and why.
-fn refused(why: Refusal) -> Given
-    ensures { λ g. ⌜ g ≡ record { answer = Refused why; stamp = blank narrow } ⌝ }
-{
-    let words = [0; 16];
-    let none = Words { count: 0, words };
-    let stamp = Record { update: none, id: none };
-    Given { answer: Answer::Refused(why), stamp }
-}
+// ---- reading: from a bit of the bytes to the bit behind what was read
 
 // A string that was read: its word, and the bit behind it.
 struct OneString {
@@ -92,81 +99,20 @@ struct OneName {
     name: Words,
 }
 
-fn wide(x: u8) -> u64
-    ensures { λ r. ⌜ r ≡ x ⌝ }
-{
-    x as u64
-}
-
-fn least(a: usize, b: usize) -> usize
-    ensures { λ r. ⌜ r ≡ min a b ⌝ }
-{
-    if a < b {
-        return a;
-    }
-    b
-}
-
-// The w bits from bit pos on, as a number; each turn takes what one byte has of them.
-fn bits_at(b: &[u8], pos: usize, w: usize) -> u64
-    requires { ⌜ (w ≤ 24) × (length (now b) ≤ 117) × (pos + w ≤ length (now b) * 8) ⌝ }
-    ensures { λ r. ⌜ r ≡ value (take w (drop pos (bitsOf (now (b .entry))))) ⌝ }
-{
-    let mut acc: u64 = 0;
-    let mut at = pos;
-    let mut left = w;
-    while 0 < left {
-        let room = 8 - at % 8;
-        let k = least(room, left);
-        let one: u64 = 1;
-        let x = wide(b[at / 8]) >> (room - k);
-        let y = x % (one << k);
-        acc = (acc << k) + y;
-        at += k;
-        left -= k;
-    }
-    acc
-}
-
-// The word of the string of n digits that v says: moved to the top, and the length.
-fn word(v: u64, n: u64) -> u64
-    requires { ⌜ (n ≤ 24) × (v < 2 ^ n) ⌝ }
-    ensures { λ r. ⌜ r ≡ v * 2 ^ (64 - n) + n ⌝ }
-{
-    let top = v << 40;
-    (top << (24 - n)) + n
-}
-
-// The string that begins at bit pos.
-fn string_at(b: &[u8], pos: usize) -> OneString
-    requires { ⌜ (length (now b) ≤ 117) × (pos ≤ length (now b) * 8) ⌝ }
-    ensures { λ r. ⌜ StringAt (now (b .entry)) pos (r .ok) (r .next) (r .word) ⌝ }
-{
-    let room = b.len() * 8 - pos;
-    if room < 5 {
-        return OneString { ok: false, next: 0, word: 0 };
-    }
-    let n = bits_at(b, pos, 5);
-    if DIGITS < n {
-        return OneString { ok: false, next: 0, word: 0 };
-    }
-    let w = n as usize;
-    if room < w + 5 {
-        return OneString { ok: false, next: 0, word: 0 };
-    }
-    let at = pos + 5;
-    let v = bits_at(b, at, w);
-    let s = word(v, n);
-    OneString { ok: true, next: at + w, word: s }
-}
-
-// No name reads.
-fn no_name() -> OneName
-    ensures { λ r. ⌜ r ≡ record { ok = false; next = 0; name = record { count = 0; words = replicate 16 0 } } ⌝ }
+// No stamp, and why.
+fn refused(why: Refusal) -> Given
+    ensures { λ g. ⌜ g ≡ record { answer = Refused why; stamp = blank narrow } ⌝ }
 {
     let words = [0; 16];
-    let name = Words { count: 0, words };
-    OneName { ok: false, next: 0, name }
+    let none = Words { count: 0, words };
+    let stamp = Record {
+        update: none,
+        id: none,
+    };
+    Given {
+        answer: Answer::Refused(why),
+        stamp,
+    }
 }
 
 // The name that begins at bit pos: each string after the one before it.
@@ -174,11 +120,11 @@ fn name_at(b: &[u8], pos: usize) -> OneName
     requires { ⌜ (length (now b) ≤ 117) × (pos ≤ length (now b) * 8) ⌝ }
     ensures { λ r. ⌜ NameAt (now (b .entry)) pos (r .ok) (r .next) (r .name) ⌝ }
 {
-    if b.len() * 8 - pos < 4 {
+    if b.len() * 8 - pos < COUNT_BITS {
         return no_name();
     }
-    let more = bits_at(b, pos, 4) as usize;
-    let s = string_at(b, pos + 4);
+    let more = bits_at(b, pos, COUNT_BITS) as usize;
+    let s = string_at(b, pos + COUNT_BITS);
     if !s.ok {
         return no_name();
     }
@@ -201,7 +147,66 @@ fn name_at(b: &[u8], pos: usize) -> OneName
         count += 1;
     }
     let name = Words { count, words };
-    OneName { ok: true, next, name }
+    OneName {
+        ok: true,
+        next,
+        name,
+    }
+}
+
+// No name reads.
+fn no_name() -> OneName
+    ensures { λ r. ⌜ r ≡ record { ok = false; next = 0; name = record { count = 0; words = replicate 16 0 } } ⌝ }
+{
+    let words = [0; 16];
+    let name = Words { count: 0, words };
+    OneName {
+        ok: false,
+        next: 0,
+        name,
+    }
+}
+
+// The string that begins at bit pos: its length, then its digits.
+fn string_at(b: &[u8], pos: usize) -> OneString
+    requires { ⌜ (length (now b) ≤ 117) × (pos ≤ length (now b) * 8) ⌝ }
+    ensures { λ r. ⌜ StringAt (now (b .entry)) pos (r .ok) (r .next) (r .word) ⌝ }
+{
+    let none = OneString {
+        ok: false,
+        next: 0,
+        word: 0,
+    };
+    let room = b.len() * 8 - pos;
+    if room < LENGTH_BITS {
+        return none;
+    }
+    let n = bits_at(b, pos, LENGTH_BITS);
+    if DIGITS < n {
+        return none;
+    }
+    let w = n as usize;
+    if room < w + LENGTH_BITS {
+        return none;
+    }
+    let at = pos + LENGTH_BITS;
+    let v = bits_at(b, at, w);
+    let s = word(v, n);
+    let end = at + w;
+    OneString {
+        ok: true,
+        next: end,
+        word: s,
+    }
+}
+
+// The word of the string of n digits that v says: moved to the top, and the length.
+fn word(v: u64, n: u64) -> u64
+    requires { ⌜ (n ≤ 24) × (v < 2 ^ n) ⌝ }
+    ensures { λ r. ⌜ r ≡ v * 2 ^ (64 - n) + n ⌝ }
+{
+    let top = v << 40;
+    (top << (24 - n)) + n
 }
 
 // Whether the bits from pos on are a filling: fewer than a byte has, and all zero.
@@ -216,11 +221,115 @@ fn is_filling(b: &[u8], pos: usize) -> bool
     false
 }
 
+// The w bits from bit pos on, as a number; each turn takes what one byte has of them.
+fn bits_at(b: &[u8], pos: usize, w: usize) -> u64
+    requires { ⌜ (w ≤ 24) × (length (now b) ≤ 117) × (pos + w ≤ length (now b) * 8) ⌝ }
+    ensures { λ r. ⌜ r ≡ value (take w (drop pos (bitsOf (now (b .entry))))) ⌝ }
+{
+    let one: u64 = 1;
+    let mut acc: u64 = 0;
+    let mut at = pos;
+    let mut left = w;
+    while 0 < left {
+        let room = 8 - at % 8;
+        let k = least(room, left);
+        let x = wide(b[at / 8]) >> (room - k);
+        let y = x % (one << k);
+        acc = (acc << k) + y;
+        at += k;
+        left -= k;
+    }
+    acc
+}
+
+fn least(a: usize, b: usize) -> usize
+    ensures { λ r. ⌜ r ≡ min a b ⌝ }
+{
+    if a < b {
+        return a;
+    }
+    b
+}
+
+fn wide(x: u8) -> u64
+    ensures { λ r. ⌜ r ≡ x ⌝ }
+{
+    x as u64
+}
+
+// ---- writing: behind what is written, into the buffer itself
+
 // Where a writer stands: so many bytes are written, and behind them come `held` bits that say `acc`.
 struct Pen {
     at: usize,
     held: usize,
     acc: u64,
+}
+
+// How many bytes the stamp r takes.
+fn bytes_of(r: Record) -> usize
+    requires { ⌜ isStored narrow r ≡ true ⌝ }
+    ensures { λ n. ⌜ n ≡ length (packed narrow (held r)) ⌝ }
+{
+    let u = bits_of(r.update);
+    let i = bits_of(r.id);
+    (u + i + 7) / 8
+}
+
+// How many bits the name n takes: its count, and each string behind its length.
+fn bits_of(n: Words) -> usize
+    requires { ⌜ isStoredName narrow n ≡ true ⌝ }
+    ensures { λ r. ⌜ r ≡ length (nameBits narrow (strsIn n)) ⌝ }
+{
+    let c = n.count;
+    let mut sum = COUNT_BITS;
+    let mut i = 0;
+    while i < c {
+        sum += LENGTH_BITS + (n.words[i] % 64) as usize;
+        i += 1;
+    }
+    sum
+}
+
+// The stamp r at the front of out: both names, and zeros up to a whole byte.
+fn put_stamp(out: &mut [u8], r: Record)
+    requires { ⌜ (isStored narrow r ≡ true) × (length (packed narrow (held r)) ≤ length (now out)) ⌝ }
+    ensures { λ _. ⌜ now (out .exit) ≡ over (packed narrow (held r)) (now (out .entry)) ⌝ }
+{
+    let start = Pen {
+        at: 0,
+        held: 0,
+        acc: 0,
+    };
+    let u = put_name(out, start, r.update);
+    let i = put_name(out, u, r.id);
+    let left = (8 - i.held) % 8;
+    put(out, i, left, 0);
+}
+
+// The name n, behind what is written: its count less one, then each string.
+fn put_name(out: &mut [u8], p: Pen, n: Words) -> Pen
+    requires { ⌜ (isStoredName narrow n ≡ true) × Ready p (length (now out)) (length (nameBits narrow (strsIn n))) ⌝ }
+    ensures { λ q. ⌜ Put p (now (out .entry)) (nameBits narrow (strsIn n)) q (now (out .exit)) ⌝ }
+{
+    let c = n.count;
+    let mut q = put(out, p, COUNT_BITS, (c - 1) as u64);
+    let mut i = 0;
+    while i < c {
+        q = put_string(out, q, n.words[i]);
+        i += 1;
+    }
+    q
+}
+
+// The string of the word s, behind what is written: its length, then its digits.
+fn put_string(out: &mut [u8], p: Pen, s: u64) -> Pen
+    requires { ⌜ (length (strOf s) ≤ 24) × Ready p (length (now out)) (length (stringBits narrow (strOf s))) ⌝ }
+    ensures { λ q. ⌜ Put p (now (out .entry)) (stringBits narrow (strOf s)) q (now (out .exit)) ⌝ }
+{
+    let n = s % 64;
+    let digits = (s >> 40) >> (24 - n);
+    put(out, p, LENGTH_BITS + n as usize, (n << n) + digits)
 }
 
 // The w bits that v says, behind what is written; whole bytes go out.
@@ -239,66 +348,4 @@ fn put(out: &mut [u8], p: Pen, w: usize, v: u64) -> Pen
         at += 1;
     }
     Pen { at, held, acc }
-}
-
-// The string of the word s, behind what is written: its length, then its digits.
-fn put_string(out: &mut [u8], p: Pen, s: u64) -> Pen
-    requires { ⌜ (length (strOf s) ≤ 24) × Ready p (length (now out)) (length (stringBits narrow (strOf s))) ⌝ }
-    ensures { λ q. ⌜ Put p (now (out .entry)) (stringBits narrow (strOf s)) q (now (out .exit)) ⌝ }
-{
-    let n = s % 64;
-    let digits = (s >> 40) >> (24 - n);
-    put(out, p, 5 + n as usize, (n << n) + digits)
-}
-
-// The name n, behind what is written: its count less one, then each string.
-fn put_name(out: &mut [u8], p: Pen, n: Words) -> Pen
-    requires { ⌜ (isStoredName narrow n ≡ true) × Ready p (length (now out)) (length (nameBits narrow (strsIn n))) ⌝ }
-    ensures { λ q. ⌜ Put p (now (out .entry)) (nameBits narrow (strsIn n)) q (now (out .exit)) ⌝ }
-{
-    let c = n.count;
-    let mut q = put(out, p, 4, (c - 1) as u64);
-    let mut i = 0;
-    while i < c {
-        q = put_string(out, q, n.words[i]);
-        i += 1;
-    }
-    q
-}
-
-// The stamp r at the front of out: both names, and zeros up to a whole byte.
-fn put_stamp(out: &mut [u8], r: Record)
-    requires { ⌜ (isStored narrow r ≡ true) × (length (packed narrow (held r)) ≤ length (now out)) ⌝ }
-    ensures { λ _. ⌜ now (out .exit) ≡ over (packed narrow (held r)) (now (out .entry)) ⌝ }
-{
-    let start = Pen { at: 0, held: 0, acc: 0 };
-    let u = put_name(out, start, r.update);
-    let i = put_name(out, u, r.id);
-    let left = (8 - i.held) % 8;
-    put(out, i, left, 0);
-}
-
-// How many bits the name n takes: its count, and each string behind its length.
-fn bits_of(n: Words) -> usize
-    requires { ⌜ isStoredName narrow n ≡ true ⌝ }
-    ensures { λ r. ⌜ r ≡ length (nameBits narrow (strsIn n)) ⌝ }
-{
-    let c = n.count;
-    let mut sum = 4;
-    let mut i = 0;
-    while i < c {
-        sum += 5 + (n.words[i] % 64) as usize;
-        i += 1;
-    }
-    sum
-}
-
-// How many bytes the stamp r takes.
-fn bytes_of(r: Record) -> usize
-    requires { ⌜ isStored narrow r ≡ true ⌝ }
-    ensures { λ n. ⌜ n ≡ length (packed narrow (held r)) ⌝ }
-{
-    let u = bits_of(r.update);
-    let i = bits_of(r.id);
-    (u + i + 7) / 8
 }

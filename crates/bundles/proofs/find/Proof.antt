@@ -1,54 +1,113 @@
+-- `bundles::find` meets its contract: what is sought from `at` on is what was sought from the start. Each entry ends behind the byte at which
+-- it begins, so the loop ends whatever k is. Assumes nothing.
+use mathlib.Core.Path.{_≡_, sym, ap, _∙_, subst}
+use mathlib.Core.List.{List}
+use Prim.Native.Nat.{ℕ, zero, suc, _+_, _-_, _≤_, _<_}
+use native.Mathlib.Omega.{arith}
+use borrow.Author.Needs.{needs}
+use borrow.Author.Tests.{lt-ltb, le-ltb}
+use lib.ListN.{length, take, drop, length-drop}
+use lib.Seq.{drop-drop, length-take-le}
+use Rattle.rules.specs.Limits.{narrow}
+use Rattle.rules.specs.Bundles.{part, noEntry, frontEntry, entryIn, entry}
+use Rattle.rules.specs.declared.Refusal.{Refusal}
+use Rattle.rules.specs.declared.Refusal.the-variants.{Malformed}
+use Rattle.bundles.specs.Places.{placed, Inside, Begins}
+use Rattle.bundles.specs.declared.Place.{Place}
+use Rattle.bundles.specs.declared.Place.the-variants.{At, Refused}
 use Rattle.bundles.proofs.find.Statement.{statement}
 use Rattle.bundles.proofs.find.Tie as tie
-use Rattle.bundles.proofs.find.Reads as reads
-use Rattle.bundles.proofs.find.Lts as lts
-use Rattle.bundles.proofs.front.Reads as front-reads
+
+too-large : (b : List ℕ) (k : ℕ) → 65536 < length b → noEntry Malformed ≡ entry narrow k b
+unfolding entry
+too-large b k h = rw (lt-ltb 65536 (length b) h)
+
+from-start : (b : List ℕ) (k : ℕ) → length b ≤ 65536 → entryIn narrow k (drop 0 b) ≡ entry narrow k b
+unfolding entry
+from-start b k h = rw (le-ltb 65536 (length b) h)
+
+module _ (b : List ℕ) (at : ℕ) where
+  -- what is known of the entry at `at`
+  abbrev Front : Place → Type 0
+  Front p = (placed b p ≡ frontEntry narrow (drop at b)) × Inside b p × Begins at p
+
+  -- it is refused, and so is any entry from there on
+  refuses : (left : ℕ) (p : Place) (r : Refusal) → p ≡ Refused r → placed b p ≡ frontEntry narrow (drop at b) → placed b p ≡ entryIn narrow left (drop at b)
+  unfolding entryIn
+  refuses zero p r t e = e
+  refuses (suc left) p r t e = rw (sym e, t)
+
+  module _ (from to : ℕ) (f : Front (At from to)) where
+    -- it is the one that is sought
+    found : (left : ℕ) → left ≡ 0 → placed b (At from to) ≡ entryIn narrow left (drop at b)
+    unfolding entryIn
+    found left z = rw z (f .0)
+
+    ends : at + (1 + length (take (to - from) (drop from b))) ≡ to
+    ends = omega (arith, f .1, f .2, length-drop from b, length-take-le (to - from) (drop from b) (omega (arith, f .1, length-drop from b)))
+
+    -- it is passed over
+    passes : (left more : ℕ) → left ≡ suc more → entryIn narrow more (drop to b) ≡ entryIn narrow left (drop at b)
+    unfolding entryIn
+    passes left more z =
+        rw (z, sym (f .0)) (sym (ap (entryIn narrow more) (drop-drop (1 + length (take (to - from) (drop from b))) at b ∙ ap (λ (j : ℕ). drop j b) ends)))
 
 abbrev Inv-loop : tie.InvT-loop
-Inv-loop b k at₀ left₀ at left = ?
+Inv-loop b k at₀ left₀ at left = entryIn narrow left (drop at b) ≡ entry narrow k b
 
 abbrev μ-loop : tie.MeasureT-loop
-μ-loop b k at₀ left₀ at left = ?
+μ-loop b k at₀ left₀ at left = length b - at
 
--- src/lib.rt:41:9
 returns : tie.Need-returns Inv-loop μ-loop
-returns c = ?
+returns c = (too-large (c .before .before .args .b .now) (c .before .before .args .k) (c .if1 .taken), tt)
 
--- src/lib.rt:45:5
 loop-holds : tie.Need-loop-holds Inv-loop μ-loop
-loop-holds c = ?
+loop-holds c = from-start (c .before .before .args .b .now) (c .before .before .args .k) (c .if1 .left)
 
--- src/lib.rt:46:13
 front-requires : tie.Need-front-requires Inv-loop μ-loop
-front-requires c κs = ?
+front-requires c κs = search needs
 
--- src/lib.rt:47:26
 enum-known-p : tie.Need-enum-known-p Inv-loop μ-loop
-enum-known-p c = ?
+enum-known-p c = search needs
 
--- src/lib.rt:48:13
 enum-told : tie.Need-enum-told Inv-loop μ-loop
-enum-told c = ?
+enum-told c = search needs
 
--- src/lib.rt:48:13
 returns-2 : tie.Need-returns-2 Inv-loop μ-loop
-returns-2 c = ?
+returns-2 c =
+    let f = c .before .before in
+    let l = f .before in
+    let e = f .front .ensures in
+    (refuses (l .before .before .before .args .b .now) (l .loop .at) (l .loop .left) (f .front .result) _ (c .enum-told .given .1) (e .0) ∙ l .loop .inv, e .1)
 
--- src/lib.rt:51:13
 returns-3 : tie.Need-returns-3 Inv-loop μ-loop
-returns-3 c = ?
+returns-3 c =
+    let p = c .before .before in
+    let f = p .before .before in
+    let l = f .before in
+    let b = l .before .before .before .args .b .now in
+    let e : Front b (l .loop .at) (At _ _) = subst (Front b (l .loop .at)) (p .p .given .1) (f .front .ensures) in
+    (found b (l .loop .at) _ _ e (l .loop .left) (omega (arith, c .if2 .taken)) ∙ l .loop .inv, e .1)
 
--- src/lib.rt:54:9
 sub-left : tie.Need-sub-left Inv-loop μ-loop
-sub-left c = ?
+sub-left c = search needs
 
--- src/lib.rt:45:5
 loop-less : tie.Need-loop-less Inv-loop μ-loop
-loop-less c = ?
+loop-less c =
+    let p = c .before .before in
+    let f = p .before .before in
+    let l = f .before in
+    let b = l .before .before .before .args .b .now in
+    let e : Front b (l .loop .at) (At _ _) = subst (Front b (l .loop .at)) (p .p .given .1) (f .front .ensures) in
+    omega (arith, e .1 .0, e .1 .1, e .2)
 
--- src/lib.rt:45:5
 loop-again : tie.Need-loop-again Inv-loop μ-loop
-loop-again c = ?
+loop-again c =
+    let p = c .before .before in
+    let f = p .before .before in
+    let l = f .before in
+    let b = l .before .before .before .args .b .now in
+    passes b (l .loop .at) _ _ (subst (Front b (l .loop .at)) (p .p .given .1) (f .front .ensures)) (l .loop .left) _ (omega (arith, c .if2 .left)) ∙ l .loop .inv
 
 pub find-spec : {M : Type 1} → statement M
 find-spec =

@@ -1,48 +1,98 @@
+-- `bundles::front` meets its contract: the list from `at` on is the length byte there and what comes behind it, and the code's tests are
+-- those of that byte and that rest. Assumes nothing.
+use mathlib.Core.Path.{_≡_, refl, sym, ap, _∙_}
+use mathlib.Core.Bool.{true, false, cond}
+use mathlib.Core.List.{List, [], _∷_}
+use Prim.Native.Nat.{ℕ, suc, _+_, _-_, _≤_, _<_}
+use native.Mathlib.Nat.{add-sub-cancel-left}
+use native.Mathlib.Numerals.{add-one}
+use native.Mathlib.Omega.{arith}
 use borrow.Author.Needs.{needs}
+use borrow.Author.Tests.{lt-ltb, le-ltb}
+use lib.ListN.{length, getD, take, drop, length-drop, drop-of-length-le}
+use lib.Seq.{drop-cons}
+use Rattle.rules.specs.Limits.{narrow}
+use Rattle.rules.specs.Bundles.{Entry, part, noEntry, badEntry, frontEntry}
+use Rattle.rules.specs.declared.Refusal.the-variants.{Malformed, Ended}
 use Rattle.bundles.proofs.front.Statement.{statement}
 use Rattle.bundles.proofs.front.Tie as tie
-use Rattle.bundles.proofs.front.Reads as reads
-use Rattle.bundles.proofs.front.Lts as lts
 
--- src/lib.rt:63:9
+module _ (b : List ℕ) (at : ℕ) where
+  ended : length b ≤ at → noEntry Ended ≡ frontEntry narrow (drop at b)
+  unfolding frontEntry
+  ended h = rw (drop-of-length-le b h)
+
+  module _ (h : at < length b) where
+    abbrev n : ℕ
+    n = getD b at 0
+
+    front-is : frontEntry narrow (drop at b) ≡ cond (badEntry narrow n (drop (at + 1) b)) (noEntry Malformed) (part (take n (drop (at + 1) b)))
+    unfolding frontEntry
+    front-is = rw (drop-cons b at 0 h, add-one at)
+
+    too-small : n < 3 → noEntry Malformed ≡ frontEntry narrow (drop at b)
+    unfolding badEntry
+    too-small k = sym (front-is ∙ rw (lt-ltb n 3 k))
+
+    too-large : 3 ≤ n → 117 < n → noEntry Malformed ≡ frontEntry narrow (drop at b)
+    unfolding badEntry
+    too-large k l = sym (front-is ∙ rw (le-ltb n 3 k, lt-ltb 117 n l))
+
+    module _ (k : 3 ≤ n) (l : n ≤ 117) where
+      rest : length (drop (at + 1) b) ≡ length b - (at + 1)
+      rest = length-drop (at + 1) b
+
+      cut-short : length b - (at + 1) < n → noEntry Malformed ≡ frontEntry narrow (drop at b)
+      unfolding badEntry
+      cut-short m = sym (front-is ∙ rw (le-ltb n 3 k, le-ltb 117 n l, rest, lt-ltb (length b - (at + 1)) n m))
+
+      fits : n ≤ length b - (at + 1) → part (take (at + 1 + n - (at + 1)) (drop (at + 1) b)) ≡ frontEntry narrow (drop at b)
+      unfolding badEntry
+      fits m =
+          ap (λ (j : ℕ). part (take j (drop (at + 1) b))) (add-sub-cancel-left (at + 1) n)
+          ∙ sym (front-is ∙ rw (le-ltb n 3 k, le-ltb 117 n l, rest, le-ltb (length b - (at + 1)) n m))
+
 returns : tie.Need-returns
-returns c = ?
+returns c = (ended (c .before .args .b .now) (c .before .args .at) (c .if1 .taken), tt, tt)
 
--- src/lib.rt:65:13
 shared-slice-read-n : tie.Need-shared-slice-read-n
 shared-slice-read-n c = search needs
 
--- src/lib.rt:65:13
 cast-n : tie.Need-cast-n
-cast-n c = ?
+cast-n c = omega (arith, c .shared-slice-known .given (c .before .before .args .at))
 
--- src/lib.rt:67:9
 returns-2 : tie.Need-returns-2
-returns-2 c = ?
+returns-2 c =
+    let e = c .before .before in
+    (too-small (e .before .args .b .now) (e .before .args .at) (e .if1 .left) (c .if2 .taken), tt, tt)
 
--- src/lib.rt:70:9
 returns-3 : tie.Need-returns-3
-returns-3 c = ?
+returns-3 c =
+    let e = c .before .before .before in
+    (too-large (e .before .args .b .now) (e .before .args .at) (e .if1 .left) (c .before .if2 .left) (c .if3 .taken), tt, tt)
 
--- src/lib.rt:72:16
 add-from : tie.Need-add-from
 add-from c = search needs
 
--- src/lib.rt:73:8
 sub-if4 : tie.Need-sub-if4
 sub-if4 c = search needs
 
--- src/lib.rt:74:9
 returns-4 : tie.Need-returns-4
-returns-4 c = ?
+returns-4 c =
+    let t = c .before in
+    let e = t .before .before .before in
+    (cut-short (e .before .args .b .now) (e .before .args .at) (e .if1 .left) (t .before .if2 .left) (t .if3 .left) (c .if4 .taken), tt, tt)
 
--- src/lib.rt:76:14
 add-to : tie.Need-add-to
 add-to c = search needs
 
--- src/lib.rt:59:1
 returns-5 : tie.Need-returns-5
-returns-5 c = ?
+returns-5 c =
+    let t = c .before in
+    let e = t .before .before .before in
+    let m = c .if4 .left in
+    let h = e .if1 .left in
+    (fits (e .before .args .b .now) (e .before .args .at) h (t .before .if2 .left) (t .if3 .left) m, (omega arith, omega arith), refl)
 
 pub front-spec : {M : Type 1} → statement M
 front-spec =

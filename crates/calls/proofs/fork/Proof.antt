@@ -49,6 +49,7 @@ module _ (s x y : List ℕ) (g : Given) (e : g ≡ readStamp narrow s) where
     module _ (q : f .answer ≡ Done) where
       abbrev P : List ℕ
       P = packed narrow (held (f .zero))
+
       abbrev Q : List ℕ
       Q = packed narrow (held (f .one))
 

@@ -32,14 +32,16 @@ unfolding addedTurn
 returns-4 c =
     let b = c .before .before in
     let a = b .before .before in
-    simp (a .before .if1 .left, sym (a .is-prefix .ensures) ∙ b .before .if2 .left, sym (b .is-prefix2 .ensures) ∙ c .before .if3 .left, lt-ltb _ _ (c .if4 .taken))
+    let q = sym (b .is-prefix2 .ensures) ∙ c .before .if3 .left in
+    simp (a .before .if1 .left, sym (a .is-prefix .ensures) ∙ b .before .if2 .left, q, lt-ltb _ _ (c .if4 .taken))
 
 returns-5 : tie.Need-returns-5
 unfolding addedTurn
 returns-5 c =
     let b = c .before .before in
     let a = b .before .before in
-    simp (a .before .if1 .left, sym (a .is-prefix .ensures) ∙ b .before .if2 .left, sym (b .is-prefix2 .ensures) ∙ c .before .if3 .left, le-ltb _ _ (c .if4 .left))
+    let q = sym (b .is-prefix2 .ensures) ∙ c .before .if3 .left in
+    simp (a .before .if1 .left, sym (a .is-prefix .ensures) ∙ b .before .if2 .left, q, le-ltb _ _ (c .if4 .left))
 
 pub added-spec : {M : Type 1} → statement M
 added-spec = tie.close (tie.spec returns is-prefix-requires returns-2 is-prefix-requires-2 returns-3 returns-4 returns-5)

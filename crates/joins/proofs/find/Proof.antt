@@ -1,12 +1,13 @@
--- `joins::find` meets its contract: the neighbours before index i are no siblings, so what is found from i on is what is found in all. Assumes nothing.
+-- `joins::find` meets its contract: the neighbours before index i are no siblings, so what is found from i on is what is found in all.
+-- Assumes nothing.
 use mathlib.Core.Path.{_≡_, sym, ap, _∙_}
 use Prim.Native.Nat.{_+_, _-_, _≤_}
 use native.Mathlib.Omega.{arith}
 use borrow.Author.Needs.{needs}
 use lib.ListN.{getD}
-use Rattle.joins.specs.Passes.{run, front}
+use Rattle.joins.specs.Runs.{run, front}
 use Rattle.joins.specs.Working.{foundW}
-use Rattle.joins.proofs.Passes.{run-start}
+use Rattle.joins.proofs.Runs.{run-start}
 use Rattle.joins.proofs.Finding.{siblings-filled, found-now, found-more, found-end}
 use Rattle.joins.proofs.find.Statement.{statement}
 use Rattle.joins.proofs.find.Tie as tie
@@ -76,5 +77,6 @@ returns-2 c =
 pub find-spec : {M : Type 1} → statement M
 find-spec =
     tie.close
-    (tie.spec Inv-loop μ-loop loop-holds add-loop mul-s element-copy-out-s add-are-siblings mul-are-siblings element-copy-out-are-siblings are-siblings-requires sub-t15 returns
+    (tie.spec Inv-loop μ-loop loop-holds add-loop mul-s element-copy-out-s add-are-siblings mul-are-siblings
+    element-copy-out-are-siblings are-siblings-requires sub-t15 returns
     add-i loop-less loop-again returns-2)

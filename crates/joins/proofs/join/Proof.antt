@@ -50,7 +50,8 @@ module _ (a b : Record) (m : Answer) (e : m ≡ first (meeting narrow a b [])) w
   unfolding joined more
   joined-then {n} t =
       ap (λ (x : Answer). given narrow x (join (held a) (held b)))
-      (first-then (unlawful narrow a) (unlawful narrow b) (overlap (held a) (held b)) (unseen (held a) (held b)) more ∙ ap (λ (x : Answer). andThen x (first more)) (sym e ∙ t))
+      (first-then (unlawful narrow a) (unlawful narrow b) (overlap (held a) (held b)) (unseen (held a) (held b)) more
+      ∙ ap (λ (x : Answer). andThen x (first more)) (sym e ∙ t))
 
   met : m ≡ Done → (isStored narrow a ≡ true) × (isStored narrow b ≡ true)
   met t =
@@ -60,7 +61,8 @@ module _ (a b : Record) (m : Answer) (e : m ≡ first (meeting narrow a b [])) w
   not-met : (n : Refusal) (g : Given) → m ≡ Refused n → g ≡ record { answer = Refused n; stamp = blank narrow } → g ≡ joined narrow a b
   not-met n g t f = f ∙ sym (joined-then t)
 
-  merges : (g : Given) → m ≡ Done → g ≡ given narrow (first ((many narrow (join (held a) (held b)), Many) ∷ [])) (join (held a) (held b)) → g ≡ joined narrow a b
+  merges : (g : Given) → m ≡ Done → g ≡ given narrow (first ((many narrow (join (held a) (held b)), Many) ∷ [])) (join (held a) (held b))
+      → g ≡ joined narrow a b
   unfolding more
   merges g t f = f ∙ sym (joined-then t)
 
@@ -84,12 +86,14 @@ merged-requires c κs =
 returns : tie.Need-returns
 returns c =
     let m = c .before .before .before .before in
-    not-met (m .before .args .a) (m .before .args .b) (m .meet .result) (m .meet .ensures) _ (c .refused .result) (c .before .before .m .given .1) (c .refused .ensures)
+    not-met (m .before .args .a) (m .before .args .b) (m .meet .result) (m .meet .ensures) _ (c .refused .result)
+    (c .before .before .m .given .1) (c .refused .ensures)
 
 returns-2 : tie.Need-returns-2
 returns-2 c =
     let m = c .before .before .before in
-    merges (m .before .args .a) (m .before .args .b) (m .meet .result) (m .meet .ensures) (c .merged .result) (c .before .enum-told .given .1) (c .merged .ensures)
+    merges (m .before .args .a) (m .before .args .b) (m .meet .result) (m .meet .ensures) (c .merged .result)
+    (c .before .enum-told .given .1) (c .merged .ensures)
 
 pub join-spec : {M : Type 1} → statement M
 join-spec = tie.close (tie.spec meet-requires enum-known-m refused-requires enum-told merged-requires returns returns-2)

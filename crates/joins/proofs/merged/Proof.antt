@@ -11,10 +11,12 @@ use Rattle.joins.proofs.merged.Statement.{statement}
 use Rattle.joins.proofs.merged.Tie as tie
 
 unite-requires : tie.Need-unite-requires
-unite-requires c κs = let g = c .before .before .before .before in (stored-names (g .args .a) (g .pre .0) .0, stored-names (g .args .b) (g .pre .1) .0)
+unite-requires c κs =
+    let g = c .before .before .before .before in (stored-names (g .args .a) (g .pre .0) .0, stored-names (g .args .b) (g .pre .1) .0)
 
 unite-requires-2 : tie.Need-unite-requires-2
-unite-requires-2 c κs = let g = c .before .before .before .before .before in (stored-names (g .args .a) (g .pre .0) .1, stored-names (g .args .b) (g .pre .1) .1)
+unite-requires-2 c κs =
+    let g = c .before .before .before .before .before in (stored-names (g .args .a) (g .pre .0) .1, stored-names (g .args .b) (g .pre .1) .1)
 
 reduce-requires : tie.Need-reduce-requires
 reduce-requires c κs =
@@ -31,7 +33,8 @@ module _ (c : tie.After-reduce) where
   joined =
       let e = c .before in
       let d = e .before in
-      united-join (start .args .a) (start .args .b) (start .pre .0) (start .pre .1) (d .unite .result) (e .unite2 .result) (d .unite .ensures) (e .unite2 .ensures)
+      united-join (start .args .a) (start .args .b) (start .pre .0) (start .pre .1)
+      (d .unite .result) (e .unite2 .result) (d .unite .ensures) (e .unite2 .ensures)
       (c .reduce .result) (c .reduce .ensures)
 
 refused-requires : tie.Need-refused-requires
@@ -41,7 +44,8 @@ returns : tie.Need-returns
 returns c =
     let r = c .before .before .before .before .before in
     let g = start r in
-    too-many (g .args .a) (g .args .b) (g .pre .0) (g .pre .1) (r .reduce .result) (joined r) (c .refused .result) (c .before .if1 .taken) (c .refused .ensures)
+    too-many (g .args .a) (g .args .b) (g .pre .0) (g .pre .1) (r .reduce .result) (joined r)
+    (c .refused .result) (c .before .if1 .taken) (c .refused .ensures)
 
 narrowed-requires : tie.Need-narrowed-requires
 narrowed-requires c κs =
@@ -57,8 +61,8 @@ returns-2 c =
     let d = c .before in
     let r = d .before .before .before .before .before in
     let g = start r in
-    few-enough (g .args .a) (g .args .b) (g .pre .0) (g .pre .1) (r .reduce .result) (joined r) (d .narrowed .result) (c .narrowed2 .result) (d .before .if1 .left)
-    (d .narrowed .ensures) (c .narrowed2 .ensures)
+    few-enough (g .args .a) (g .args .b) (g .pre .0) (g .pre .1) (r .reduce .result) (joined r)
+    (d .narrowed .result) (c .narrowed2 .result) (d .before .if1 .left) (d .narrowed .ensures) (c .narrowed2 .ensures)
 
 pub merged-spec : {M : Type 1} → statement M
 merged-spec = tie.close (tie.spec unite-requires unite-requires-2 reduce-requires refused-requires returns narrowed-requires narrowed-requires-2 returns-2)

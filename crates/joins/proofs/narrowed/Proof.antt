@@ -5,19 +5,22 @@ use native.Mathlib.Omega.{arith}
 use borrow.Author.Needs.{needs}
 use lib.ListN.{replicate}
 use lib.Seq.{sets}
-use Rattle.joins.specs.Passes.{run, front}
-use Rattle.joins.proofs.Passes.{run-start, run-length, copy-more, copy-end}
+use Rattle.rules.specs.Limits.{narrow}
+use Rattle.joins.specs.Runs.{run, front}
+use Rattle.joins.proofs.Runs.{run-start, run-length, copy-more, copy-end}
 use Rattle.joins.proofs.narrowed.Statement.{statement}
 use Rattle.joins.proofs.narrowed.Tie as tie
 
 abbrev Inv-loop : tie.InvT-loop
-Inv-loop n c out₀ i₀ out i = (i ≤ c) × (out .count ≡ c) × (sets (out .words) i (run (n .words) i (c - i)) ≡ sets (replicate 16 0) 0 (front (n .words) c))
+Inv-loop n c out₀ i₀ out i =
+    (i ≤ c) × (out .count ≡ c)
+    × (sets (out .words) i (run (n .words) i (c - i)) ≡ sets (replicate (narrow .strings) 0) 0 (front (n .words) c))
 
 abbrev μ-loop : tie.MeasureT-loop
 μ-loop n c out₀ i₀ out i = c - i
 
 loop-holds : tie.Need-loop-holds Inv-loop μ-loop
-loop-holds c = (search needs, refl, ap (sets (replicate 16 0) 0) (run-start (c .args .t1 .words) (c .args .t1 .count)))
+loop-holds c = (search needs, refl, ap (sets (replicate (narrow .strings) 0) 0) (run-start (c .args .t1 .words) (c .args .t1 .count)))
 
 mul-out : tie.Need-mul-out Inv-loop μ-loop
 mul-out c = search needs

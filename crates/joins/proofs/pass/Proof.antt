@@ -10,8 +10,10 @@ use lib.Seq.{sets}
 use Rattle.rules.specs.Strings.{digit}
 use Rattle.joins.specs.declared.Wide.{Wide}
 use Rattle.joins.specs.declared.Turn.{Turn}
-use Rattle.joins.specs.Passes.{opt, turnOf, passW, front, run}
-use Rattle.joins.proofs.Passes.{opt-length, rest, turn-fits, turn-count, turn-words, pass-end, pass-length, run-more, run-end, run-start, run-length, wide-is}
+use Rattle.joins.specs.Runs.{room, front, run}
+use Rattle.joins.specs.Passes.{opt, turnOf, passW}
+use Rattle.joins.proofs.Runs.{run-more, run-end, run-start, run-length, wide-is}
+use Rattle.joins.proofs.Passes.{opt-length, rest, turn-fits, turn-count, turn-words, pass-end, pass-length}
 use Rattle.joins.proofs.pass.Statement.{statement}
 use Rattle.joins.proofs.pass.Tie as tie
 
@@ -19,7 +21,7 @@ abbrev Inv-loop : tie.InvT-loop
 Inv-loop s adding n c out₀ placed₀ i₀ out placed i =
     (i ≤ c)
     × (out .count + length (rest adding s placed (run (n .words) i (c - i))) ≡ length (passW adding s (front (n .words) c)))
-    × (sets (out .words) (out .count) (rest adding s placed (run (n .words) i (c - i))) ≡ sets (replicate 32 0) 0 (passW adding s (front (n .words) c)))
+    × (sets (out .words) (out .count) (rest adding s placed (run (n .words) i (c - i))) ≡ sets (replicate room 0) 0 (passW adding s (front (n .words) c)))
 
 abbrev μ-loop : tie.MeasureT-loop
 μ-loop s adding n c out₀ placed₀ i₀ out placed i = c - i
@@ -58,11 +60,11 @@ module _ (l : tie.At-loop Inv-loop μ-loop) where
   more h = ap (rest adding s (l .loop .placed)) (run-more ws i n h)
 
   -- there is room for it
-  room : out .count + length (rest adding s (l .loop .placed) (run ws i (n - i))) ≤ 32
-  room = omega (arith, l .loop .inv .1, pass-length adding s (front ws n), run-length ws 0 n)
+  has-room : out .count + length (rest adding s (l .loop .placed) (run ws i (n - i))) ≤ room
+  has-room = omega (arith, l .loop .inv .1, pass-length adding s (front ws n), run-length ws 0 n)
 
-  turn-room : i < n → (d : Turn) → d ≡ turnOf adding s t (l .loop .placed) → out .count + (digit (d .first) + digit (d .keep)) ≤ 32
-  turn-room h d e = omega (arith, room, ap length (more h), turn-fits adding s t (l .loop .placed) tail d e)
+  turn-room : i < n → (d : Turn) → d ≡ turnOf adding s t (l .loop .placed) → out .count + (digit (d .first) + digit (d .keep)) ≤ room
+  turn-room h d e = omega (arith, has-room, ap length (more h), turn-fits adding s t (l .loop .placed) tail d e)
 
 loop-holds : tie.Need-loop-holds Inv-loop μ-loop
 loop-holds c =
@@ -108,7 +110,8 @@ loop-again c =
       search needs,
       turn-count (adding l) (s l) (t l) (l .loop .placed) (tail l) d (a .turned .ensures) k k₁ k₂ e₁ e₂
           ∙ ap (λ (x : List ℕ). k + length x) (sym (more l (omega arith))) ∙ l .loop .inv .1,
-      turn-words (adding l) (s l) (t l) (l .loop .placed) (tail l) d (a .turned .ensures) k k₁ k₂ e₁ e₂ (out l .words) (b .push .result .words) (c .push2 .result .words)
+      turn-words (adding l) (s l) (t l) (l .loop .placed) (tail l) d (a .turned .ensures) k k₁ k₂ e₁ e₂
+          (out l .words) (b .push .result .words) (c .push2 .result .words)
           (b .push .ensures .1) (c .push2 .ensures .1)
           ∙ ap (sets (out l .words) k) (sym (more l (omega arith))) ∙ l .loop .inv .2,
     )
@@ -116,7 +119,7 @@ loop-again c =
 push-requires-3 : tie.Need-push-requires-3 Inv-loop μ-loop
 push-requires-3 c κs =
     let l = c .before in
-    omega (arith, room l, ap length (last l (omega arith)), opt-length (adding l && not (l .loop .placed)) (s l))
+    omega (arith, has-room l, ap length (last l (omega arith)), opt-length (adding l && not (l .loop .placed)) (s l))
 
 returns : tie.Need-returns Inv-loop μ-loop
 returns c =
@@ -128,4 +131,5 @@ returns c =
 
 pub pass-spec : {M : Type 1} → statement M
 pass-spec =
-    tie.close (tie.spec Inv-loop μ-loop loop-holds mul-t element-copy-out-t turned-requires push-requires push-requires-2 add-i loop-less loop-again push-requires-3 returns)
+    tie.close
+    (tie.spec Inv-loop μ-loop loop-holds mul-t element-copy-out-t turned-requires push-requires push-requires-2 add-i loop-less loop-again push-requires-3 returns)

@@ -1,4 +1,5 @@
--- `joins::unite` meets its contract: the strings from index i on, added to what is there, are all of them added; and that is the union. Assumes nothing.
+-- `joins::unite` meets its contract: the strings from index i on, added to what is there, are all of them added; and that is the union.
+-- Assumes nothing.
 use mathlib.Core.Path.{_≡_, sym, ap, ap₂, _∙_}
 use mathlib.Core.Bool.{true}
 use mathlib.Core.List.{List}
@@ -13,9 +14,11 @@ use Rattle.rules.specs.Stored.{strsIn, isStoredName}
 use Rattle.rules.specs.declared.Words.{Words}
 use Rattle.laws.proofs.Lawful.{Short}
 use Rattle.joins.specs.declared.Wide.{Wide}
-use Rattle.joins.specs.Passes.{run, front, wide, passW}
+use Rattle.joins.specs.Runs.{room, run, front, wide}
+use Rattle.joins.specs.Passes.{passW}
 use Rattle.joins.specs.Working.{wideOf}
-use Rattle.joins.proofs.Passes.{run-more, run-end, run-start, run-length, wide-self, pass-length}
+use Rattle.joins.proofs.Runs.{run-more, run-end, run-start, run-length, wide-self}
+use Rattle.joins.proofs.Passes.{pass-length}
 use Rattle.joins.proofs.Shapes.{stored-named, stored-few, stored-words}
 use Rattle.joins.proofs.Adding.{unionW, union-more, union-end, union-words}
 use Rattle.joins.proofs.unite.Statement.{statement}
@@ -26,13 +29,14 @@ held w = front (w .words) (w .count)
 
 abbrev Inv-loop : tie.InvT-loop
 Inv-loop m c acc₀ i₀ acc i =
-    (i ≤ c) × (c ≤ 16) × (acc .count ≤ 16 + i) × (acc ≡ wide (held acc)) × (unionW (run (m .words) i (c - i)) (held acc) ≡ unionW (front (m .words) c) (held acc₀))
+    (i ≤ c) × (c ≤ narrow .strings) × (acc .count ≤ narrow .strings + i) × (acc ≡ wide (held acc))
+    × (unionW (run (m .words) i (c - i)) (held acc) ≡ unionW (front (m .words) c) (held acc₀))
 
 abbrev μ-loop : tie.MeasureT-loop
 μ-loop m c acc₀ i₀ acc i = c - i
 
 -- what a working name that is made of words says
-made : (r : Wide) (l : List ℕ) → length l ≤ 32 → r ≡ wide l → (r .count ≡ length l) × (r ≡ wide (held r)) × (held r ≡ l)
+made : (r : Wide) (l : List ℕ) → length l ≤ room → r ≡ wide l → (r .count ≡ length l) × (r ≡ wide (held r)) × (held r ≡ l)
 made r l h e = let f = wide-self r l h e in (ap (λ (w : Wide). w .count) e, e ∙ ap wide (sym f), f)
 
 step : (ws : List ℕ) (i c : ℕ) (a r : Wide) (z : List ℕ) → i < c → held r ≡ passW true (getD ws i 0) (held a) → unionW (run ws i (c - i)) (held a) ≡ z
@@ -107,7 +111,8 @@ returns c =
     let f = made (w .widen .result) (front (n .words) (n .count)) (omega (arith, run-length (n .words) 0 (n .count))) (w .widen .ensures) in
     l .loop .inv .3
     ∙ ap wide
-    (sym (union-end (held (l .loop .acc))) ∙ ap (λ (x : List ℕ). unionW x (held (l .loop .acc))) (sym (run-end (m .words) (l .loop .i) (m .count) (omega arith)))
+    (sym (union-end (held (l .loop .acc)))
+    ∙ ap (λ (x : List ℕ). unionW x (held (l .loop .acc))) (sym (run-end (m .words) (l .loop .i) (m .count) (omega arith)))
     ∙ l .loop .inv .4 ∙ ap (unionW (front (m .words) (m .count))) (f .2))
     ∙ united m n (g .pre .0) (g .pre .1)
 

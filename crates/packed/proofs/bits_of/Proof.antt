@@ -1,12 +1,11 @@
 -- `packed::bits_of` meets its contract: the sum so far, and the bits of the strings from i on. Assumes nothing.
-use mathlib.Core.Path.{_≡_, refl, sym, ap, _∙_}
-use mathlib.Core.List.{List, [], _∷_}
-use Prim.Native.Nat.{ℕ, _+_, _*_, _-_, _%_, _≤_, _<_}
+use mathlib.Core.Path.{_≡_, sym, ap}
+use Prim.Native.Nat.{_+_, _*_, _-_, _≤_}
 use native.Mathlib.Omega.{arith}
 use borrow.Author.Needs.{needs}
 use lib.ListN.{length, getD, drop}
 use Rattle.rules.specs.Limits.{narrow}
-use Rattle.rules.specs.Strings.{Str, strOf}
+use Rattle.rules.specs.Strings.{strOf}
 use Rattle.rules.specs.Names.{Name}
 use Rattle.rules.specs.Stored.{strsIn}
 use Rattle.rules.specs.Packed.{stringsBits, nameBits}
@@ -15,8 +14,6 @@ use Rattle.stamps.proofs.Laws.{stored-few, stored-cons, stored-end}
 use Rattle.packed.proofs.Laws.{strings-length, name-length}
 use Rattle.packed.proofs.bits_of.Statement.{statement}
 use Rattle.packed.proofs.bits_of.Tie as tie
-use Rattle.packed.proofs.bits_of.Reads as reads
-use Rattle.packed.proofs.bits_of.Lts as lts
 
 abbrev Inv-loop : tie.InvT-loop
 Inv-loop n c sum₀ i₀ sum i =
@@ -50,8 +47,7 @@ loop-again : tie.Need-loop-again Inv-loop μ-loop
 loop-again c =
     let l = c .before .before in
     let n = l .before .args .t1 in
-    let w = getD (n .words) (l .loop .i) 0 in
-    (
+    let w = getD (n .words) (l .loop .i) 0 in (
       search needs,
       search needs,
       omega arith,

@@ -1,17 +1,13 @@
 -- `packed::bytes_of` meets its contract: as many bytes as hold the bits of both names. Assumes nothing.
-use mathlib.Core.Path.{_≡_, sym, ap₂, _∙_}
+use mathlib.Core.Path.{sym, ap₂, _∙_}
 use Prim.Native.Nat.{ℕ, _+_}
 use native.Mathlib.Omega.{arith}
 use Rattle.rules.specs.Limits.{narrow, bytesFor}
-use Rattle.rules.specs.Stored.{strsIn}
-use Rattle.names.proofs.Shape.{stored-name}
+use Rattle.laws.proofs.Stored.{stored-name}
 use Rattle.stamps.proofs.Laws.{stored-names}
-use Rattle.packed.proofs.Laws.{name-most, record-size}
+use Rattle.packed.proofs.Laws.{name-most, record-length}
 use Rattle.packed.proofs.bytes_of.Statement.{statement}
 use Rattle.packed.proofs.bytes_of.Tie as tie
-use Rattle.packed.proofs.bytes_of.Reads as reads
-use Rattle.packed.proofs.bytes_of.Lts as lts
-use Rattle.packed.proofs.bits_of.Reads as bits-of-reads
 
 bits-of-requires : tie.Need-bits-of-requires
 bits-of-requires c κs = stored-names narrow (c .args .r) (c .pre) .0
@@ -48,7 +44,7 @@ add-result-2 c =
     }
 
 returns : tie.Need-returns
-returns c = ap₂ (λ (u i : ℕ). bytesFor (u + i)) (c .before .bits-of .ensures) (c .bits-of2 .ensures) ∙ sym (record-size (c .before .before .args .r))
+returns c = ap₂ (λ (u i : ℕ). bytesFor (u + i)) (c .before .bits-of .ensures) (c .bits-of2 .ensures) ∙ sym (record-length (c .before .before .args .r))
 
 pub bytes-of-spec : {M : Type 1} → statement M
 bytes-of-spec =

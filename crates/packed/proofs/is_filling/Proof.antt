@@ -1,19 +1,16 @@
 -- `packed::is_filling` meets its contract: bits are all zero exactly when the number that they say is. Assumes nothing.
-use mathlib.Core.Path.{_≡_, refl, sym, ap, _∙_}
-use mathlib.Core.Bool.{Bool, true, false, not}
-use mathlib.Core.List.{List, [], _∷_}
-use Prim.Native.Nat.{ℕ, _+_, _*_, _-_, _^_, _≤_, _<_}
+use mathlib.Core.Path.{_≡_, ap, _∙_}
+use mathlib.Core.Bool.{Bool, false}
+use mathlib.Core.List.{List}
+use Prim.Native.Nat.{ℕ, _≤_, _<_}
 use native.Mathlib.Omega.{arith}
 use borrow.Author.Needs.{needs}
-use borrow.Author.Tests.{lt-ltb, le-ltb, ne-eqb}
+use borrow.Author.Tests.{le-ltb}
 use lib.Dec.{eqb}
-use lib.Pow.{pow-pos}
 use lib.ListN.{length, take, drop}
 use lib.Seq.{take-all}
-use Rattle.rules.specs.Strings.{valueFrom, value}
-use Rattle.rules.specs.Names.{any}
+use Rattle.rules.specs.Strings.{value}
 use Rattle.rules.specs.Packed.{bitsOf, isFilling}
-use Rattle.laws.proofs.Bits.{value-shift}
 use Rattle.packed.proofs.Laws.{room-is, filling-value}
 use Rattle.packed.proofs.is_filling.Statement.{statement}
 use Rattle.packed.proofs.is_filling.Tie as tie

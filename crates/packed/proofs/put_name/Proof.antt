@@ -1,29 +1,25 @@
 -- `packed::put_name` meets its contract: of the strings, those before i are written, and those from i on are to come. Assumes nothing.
-use mathlib.Core.Path.{_≡_, refl, sym, ap, ap₂, _∙_, subst}
+use mathlib.Core.Path.{_≡_, refl, sym, ap, _∙_, subst}
 use mathlib.Core.Bool.{Bool, true}
 use mathlib.Core.List.{List, [], _∷_, _++_, append-assoc, append-nil}
-use Prim.Native.Nat.{ℕ, suc, _+_, _*_, _-_, _^_, _≤_, _<_}
+use Prim.Native.Nat.{ℕ, _+_, _*_, _-_, _^_, _≤_, _<_}
 use native.Mathlib.Omega.{arith}
 use borrow.Author.Needs.{needs}
-use lib.ListN.{length, getD, drop, length-append}
+use lib.ListN.{length, drop, length-append}
 use Rattle.rules.specs.Limits.{narrow}
-use Rattle.rules.specs.Strings.{Str, field, strOf}
+use Rattle.rules.specs.Strings.{Str, field}
 use Rattle.rules.specs.Names.{Name}
 use Rattle.rules.specs.Stored.{strsIn}
 use Rattle.rules.specs.Packed.{stringBits, stringsBits, nameBits}
 use Rattle.laws.proofs.Bits.{field-length}
 use Rattle.layout.proofs.Names.{allShort, named, short-head, short-tail}
-use Rattle.names.proofs.Shape.{stored-name}
+use Rattle.laws.proofs.Stored.{stored-name}
 use Rattle.stamps.proofs.Laws.{stored-count, stored-filled, stored-few, stored-cons, stored-end}
-use Rattle.packed.specs.Cursors.{Ready, Put}
+use Rattle.packed.specs.Cursors.{Put}
 use Rattle.packed.specs.declared.Pen.{Pen}
 use Rattle.packed.proofs.Laws.{put-on, put-none, string-length, strings-length, name-length}
 use Rattle.packed.proofs.put_name.Statement.{statement}
 use Rattle.packed.proofs.put_name.Tie as tie
-use Rattle.packed.proofs.put_name.Reads as reads
-use Rattle.packed.proofs.put_name.Lts as lts
-use Rattle.packed.proofs.put.Reads as put-reads
-use Rattle.packed.proofs.put_string.Reads as put-string-reads
 
 -- the strings of n are to be put, and those of m are still to come
 record Going (p : Pen) (l : List ℕ) (n : Name) (q : Pen) (k : List ℕ) (m : Name) : Type 0 where
@@ -35,7 +31,7 @@ record Going (p : Pen) (l : List ℕ) (n : Name) (q : Pen) (k : List ℕ) (m : N
 going : (p : Pen) (l : List ℕ) (n : Name) → p .held < 8 → p .acc < 2 ^ p .held → allShort narrow n ≡ true → Going p l n p l n
 going p l n few small h = record { done = []; split = refl; put = put-none p l few small; short = h }
 
-module _ (p : Pen) (l : List ℕ) (n : Name) (q : Pen) (k : List ℕ) (m : Name) (g : Going p l n q k m) where
+module _ {p : Pen} {l : List ℕ} {n : Name} {q : Pen} {k : List ℕ} {m : Name} (g : Going p l n q k m) where
   -- the next string: short, and with room
   next-short : (s : Str) (rest : Name) → m ≡ s ∷ rest → length s ≤ 24
   next-short s rest e = short-head narrow s rest (subst (λ (x : Name). allShort narrow x ≡ true) e (g .short))
@@ -89,8 +85,7 @@ sub-put c = let g = c .before .before in stored-filled narrow (g .args .t3) (g .
 put-requires : tie.Need-put-requires Inv-loop μ-loop
 put-requires c κs =
     let g = c .before .before in
-    let n = g .args .t3 in
-    (
+    let n = g .args .t3 in (
       search needs,
       omega (arith, stored-few narrow n (g .pre .0)),
       record { few = g .pre .1 .few; small = g .pre .1 .small; room = omega (arith, g .pre .1 .room, name-length (strsIn n)) },
@@ -100,13 +95,12 @@ loop-holds : tie.Need-loop-holds Inv-loop μ-loop
 loop-holds c =
     let p = c .before .before in
     let g = p .before .before .before in
-    let n = g .args .t3 in
-    (
+    let n = g .args .t3 in (
       search needs,
       stored-few narrow n (g .pre .0),
       refl,
       going (p .put .result) (p .put .last .0) (strsIn n) (p .put .ensures .few) (p .put .ensures .small)
-      (named narrow (strsIn n) (stored-name narrow n (g .pre .0)) .short),
+          (named narrow (strsIn n) (stored-name narrow n (g .pre .0)) .short),
     )
 
 mul-put-string : tie.Need-mul-put-string Inv-loop μ-loop
@@ -123,9 +117,8 @@ put-string-requires c κs =
     let n = g .args .t3 in
     let i = l .loop .inv .3 in
     let e = stored-cons narrow n (g .pre .0) (l .loop .i) (omega arith) in
-    let r = next-room _ _ (strsIn n) (l .loop .q) (l .loop .out) _ i _ _ e in
-    (
-      next-short _ _ (strsIn n) (l .loop .q) (l .loop .out) _ i _ _ e,
+    let r = next-room i _ _ e in (
+      next-short i _ _ e,
       record {
         few = i .put .few;
         small = i .put .small;
@@ -154,12 +147,11 @@ loop-again c =
     let l = t .before .before .before .before in
     let p = l .before .before .before in
     let g = p .before .before .before in
-    let n = g .args .t3 in
-    (
+    let n = g .args .t3 in (
       search needs,
       search needs,
       t .put-string .kept .0 ∙ l .loop .inv .2,
-      stepped _ _ (strsIn n) (l .loop .q) (l .loop .out) _ (l .loop .inv .3) _ _ _ _ (stored-cons narrow n (g .pre .0) (l .loop .i) (omega arith)) (t .put-string .ensures),
+      stepped (l .loop .inv .3) _ _ _ _ (stored-cons narrow n (g .pre .0) (l .loop .i) (omega arith)) (t .put-string .ensures),
     )
 
 same-length : tie.Need-same-length Inv-loop μ-loop
@@ -173,7 +165,7 @@ returns c =
     let n = g .args .t3 in
     whole (g .args .p) (g .args .out .now) (strsIn n) (n .count) (p .put .result) (p .put .last .0) (l .loop .q) (l .loop .out)
     (stored-count narrow n (g .pre .0)) (p .put .ensures)
-    (ended _ _ (strsIn n) (l .loop .q) (l .loop .out) _ (l .loop .inv .3) (stored-end narrow n (g .pre .0) (l .loop .i) (omega arith)))
+    (ended (l .loop .inv .3) (stored-end narrow n (g .pre .0) (l .loop .i) (omega arith)))
 
 pub put-name-spec : {M : Type 1} → statement M
 put-name-spec =

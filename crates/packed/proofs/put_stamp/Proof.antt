@@ -1,34 +1,44 @@
 -- `packed::put_stamp` meets its contract: both names and zeros up to a whole byte are put, so that no bit is held, and bytes whose bits
 -- are these and a filling are the stamp packed. Assumes nothing.
 use mathlib.Core.Path.{_≡_, refl, sym, ap, ap₂, _∙_}
-use mathlib.Core.Bool.{Bool, true}
-use mathlib.Core.List.{List, [], _++_, append-assoc, append-nil}
-use Prim.Native.Nat.{ℕ, _+_, _*_, _-_, _%_, _^_, _≤_, _<_}
+use mathlib.Core.Bool.{true}
+use mathlib.Core.List.{List, [], _∷_, _++_, append-nil}
+use Prim.Native.Nat.{ℕ, zero, suc, _-_, _%_, _<_}
 use native.Mathlib.Omega.{arith}
+use borrow.Author.Tests.{eq-eqb}
+use lib.Dec.{ltb}
 use lib.Pow.{pow-pos}
-use lib.ListN.{length, getD, take, drop, length-append, take-append-drop}
+use lib.ListN.{length, take, drop, length-append, take-append-drop}
 use Rattle.rules.specs.Limits.{narrow}
-use Rattle.rules.specs.Strings.{field}
+use Rattle.rules.specs.Strings.{field, value}
+use Rattle.rules.specs.Names.{all}
 use Rattle.rules.specs.Stored.{strsIn, held}
-use Rattle.rules.specs.Packed.{nameBits, stampBits, packed, over, bitsOf}
+use Rattle.rules.specs.Packed.{nameBits, stampBits, packed, over, bitsOf, isFilling}
 use Rattle.rules.specs.declared.Record.{Record}
-use Rattle.laws.proofs.Bits.{field-length}
+use Rattle.laws.proofs.Tests.{and-left, and-right, and-both}
+use Rattle.laws.proofs.Bits.{field-length, value-field-exact}
 use Rattle.layout.proofs.Bytes.{areBytes, pack-of-bits}
 use Rattle.layout.proofs.Sizes.{packed-length}
 use Rattle.stamps.proofs.Laws.{stored-names}
-use Rattle.packed.specs.Cursors.{written, Ready, Put}
+use Rattle.packed.specs.Cursors.{Put}
 use Rattle.packed.specs.declared.Pen.{Pen}
-use Rattle.packed.proofs.Laws.{put-on, filling-field, bytes-are, bytes-front, record-size}
+use Rattle.packed.proofs.Laws.{put-on, filling-value, bytes-are, record-length}
 use borrow.Author.Needs.{needs}
 use Rattle.packed.proofs.put_stamp.Statement.{statement}
 use Rattle.packed.proofs.put_stamp.Tie as tie
-use Rattle.packed.proofs.put_stamp.Reads as reads
-use Rattle.packed.proofs.put_stamp.Lts as lts
-use Rattle.packed.proofs.put.Reads as put-reads
-use Rattle.packed.proofs.put_name.Reads as put-name-reads
 
 abbrev start : Pen
 start = record { at = 0; held = 0; acc = 0 }
+
+filling-field : (k : ℕ) → k < 8 → isFilling (field k 0) ≡ true
+filling-field k h =
+    sym (filling-value (field k 0) (omega (arith, field-length k 0))) ∙ eq-eqb (value (field k 0)) 0 (value-field-exact k 0 (pow-pos k))
+
+bytes-front : (n : ℕ) (b : List ℕ) → areBytes b ≡ true → areBytes (take n b) ≡ true
+unfolding all
+bytes-front zero b h = refl
+bytes-front (suc n) [] h = refl
+bytes-front (suc n) (x ∷ b) h = and-both (and-left (ltb x 256) (areBytes b) h) (bytes-front n b (and-right (ltb x 256) (areBytes b) h))
 
 -- whole bytes were put: the stamp, and the rest of l
 whole : (r : Record) (l : List ℕ) (k : ℕ) (q : Pen) (m : List ℕ) → areBytes m ≡ true → k < 8 → q .held ≡ 0
@@ -45,20 +55,18 @@ whole r l k q m bytes few none p =
 
 put-name-requires : tie.Need-put-name-requires
 put-name-requires c κs =
-    let g = c .before .before in
-    (
+    let g = c .before .before in (
       stored-names narrow (g .args .r) (g .pre .0) .0,
-      record { few = omega arith; small = omega arith; room = omega (arith, g .pre .1, record-size (g .args .r)) },
+      record { few = omega arith; small = omega arith; room = omega (arith, g .pre .1, record-length (g .args .r)) },
     )
 
 put-name-requires-2 : tie.Need-put-name-requires-2
 put-name-requires-2 c κs =
     let u = c .before .before .before in
     let g = u .before .before .before in
-    let p = u .put-name .ensures in
-    (
+    let p = u .put-name .ensures in (
       stored-names narrow (g .args .r) (g .pre .0) .1,
-      record { few = p .few; small = p .small; room = omega (arith, p .moved, u .put-name .kept .0, g .pre .1, record-size (g .args .r)) },
+      record { few = p .few; small = p .small; room = omega (arith, p .moved, u .put-name .kept .0, g .pre .1, record-length (g .args .r)) },
     )
 
 sub-left : tie.Need-sub-left
@@ -69,8 +77,7 @@ put-requires c κs =
     let i = c .before .before .before .before in
     let u = i .before .before .before .before in
     let g = u .before .before .before in
-    let p = i .put-name2 .ensures in
-    (
+    let p = i .put-name2 .ensures in (
       omega arith,
       pow-pos _,
       record {
@@ -84,7 +91,7 @@ put-requires c κs =
           i .put-name2 .kept .0,
           u .put-name .kept .0,
           g .pre .1,
-          record-size (g .args .r),
+          record-length (g .args .r),
         );
       },
     )

@@ -5,20 +5,14 @@ use mathlib.Core.List.{List, _++_}
 use Prim.Native.Nat.{ℕ, _+_, _*_, _-_, _/_, _%_, _^_, _≤_, _<_}
 use native.Mathlib.Omega.{arith}
 use lib.Pow.{pow-mono, shl-exact, shr-lt, shr-shr}
-use lib.ListN.{length, length-append}
 use Rattle.rules.specs.Limits.{narrow}
 use Rattle.rules.specs.Strings.{field, strOf}
 use Rattle.rules.specs.Packed.{stringBits}
-use Rattle.laws.proofs.Bits.{field-length}
 use Rattle.laws.proofs.Words.{str-length, str-top}
-use Rattle.packed.specs.Cursors.{Ready, Put}
-use Rattle.packed.proofs.Laws.{part-room, field-join, string-length}
+use Rattle.packed.proofs.Laws.{join-lt, field-join, string-length}
 use borrow.Author.Needs.{needs}
 use Rattle.packed.proofs.put_string.Statement.{statement}
 use Rattle.packed.proofs.put_string.Tie as tie
-use Rattle.packed.proofs.put_string.Reads as reads
-use Rattle.packed.proofs.put_string.Lts as lts
-use Rattle.packed.proofs.put.Reads as put-reads
 
 -- the digits of the word w of n, as a number
 abbrev digits : ℕ → ℕ → ℕ
@@ -37,7 +31,7 @@ number-is : (w n : ℕ) → n ≤ 24 → (n * 2 ^ n) % 2 ^ 64 + digits w n ≡ n
 number-is w n h = ap (λ (k : ℕ). k + digits w n) (shl-exact {a = n} 5 n 64 (omega arith) (omega arith))
 
 number-lt : (w n : ℕ) → w < 2 ^ 64 → n ≤ 24 → (n * 2 ^ n) % 2 ^ 64 + digits w n < 2 ^ (5 + n)
-number-lt w n hw hn = rw (number-is w n hn) (part-room n 5 n (digits w n) (omega arith) (digits-lt w n hw hn))
+number-lt w n hw hn = rw (number-is w n hn) (join-lt n 5 n (digits w n) (omega arith) (digits-lt w n hw hn))
 
 bits-are : (w n : ℕ) → w < 2 ^ 64 → w % 64 ≡ n → n ≤ 24 → field (5 + n) ((n * 2 ^ n) % 2 ^ 64 + digits w n) ≡ stringBits narrow (strOf w)
 unfolding stringBits
@@ -70,8 +64,7 @@ put-requires : tie.Need-put-requires
 put-requires c κs =
     let g = c .before .before in
     let w = g .args .s in
-    let n : w % 64 ≤ 24 = omega (arith, str-length w, g .pre .0) in
-    (
+    let n : w % 64 ≤ 24 = omega (arith, str-length w, g .pre .0) in (
       omega arith,
       number-lt w (w % 64) (g .fits .s .fits) n,
       record { few = g .pre .1 .few; small = g .pre .1 .small; room = omega (arith, g .pre .1 .room, string-length (strOf w), str-length w) },

@@ -1,40 +1,46 @@
 -- `packed::read` meets its contract: each test of the code is the one that the reader of bits makes there, and a record that was read
 -- is the stored shape of its stamp, so that only the stamp decides whether it is lawful. Assumes nothing.
-use mathlib.Core.Path.{_≡_, refl, sym, ap, ap₂, _∙_}
+use mathlib.Core.Path.{_≡_, refl, sym, ap, _∙_}
 use mathlib.Core.Bool.{Bool, true, false, cond, _&&_, and-true}
-use mathlib.Core.List.{List, [], _∷_}
+use mathlib.Core.List.{List}
 use mathlib.Core.Option.{Option, none, some}
-use Prim.Native.Nat.{ℕ, _+_, _*_, _-_, _≤_, _<_}
+use Prim.Native.Nat.{ℕ, _<_}
 use native.Mathlib.Omega.{arith}
 use borrow.Author.Needs.{needs}
 use borrow.Author.Tests.{not-true, not-false}
 use lib.Dec.{lit≤}
-use lib.ListN.{length, getD, drop}
+use lib.ListN.{length, drop}
 use Rattle.rules.specs.Limits.{narrow}
 use Rattle.rules.specs.Names.{Name}
 use Rattle.rules.specs.Stamps.{Stamp, lawful}
-use Rattle.rules.specs.Stored.{wordsOf, stored, strsIn, held, sameRecord, isStored, blank}
+use Rattle.rules.specs.Stored.{stored, strsIn, held, sameRecord, isStored, blank}
 use Rattle.rules.specs.Refusals.{first}
-use Rattle.rules.specs.Packed.{bitsOf, takeName, takeStamp, isFilling, filledOnly, unpacked, readAs, readStamp}
-use Rattle.rules.specs.declared.Words.{Words}
+use Rattle.rules.specs.Packed.{bitsOf, takeName, takeStamp, isFilling, unpacked, readAs, readStamp}
 use Rattle.rules.specs.declared.Record.{Record}
 use Rattle.rules.specs.declared.Given.{Given}
 use Rattle.rules.specs.declared.Refusal.the-variants.{Malformed, Unlawful}
 use Rattle.rules.specs.declared.Answer.the-variants.{Done, Refused}
 use Rattle.laws.proofs.Tests.{and-both}
-use Rattle.names.proofs.Shape.{words-refl}
+use Rattle.layout.proofs.Bytes.{areBytes}
+use Rattle.layout.proofs.RoundTrip.{packed-unpacked, unpacked-names}
+use Rattle.laws.proofs.Stored.{words-refl}
 use Rattle.packed.specs.Cursors.{NameAt}
-use Rattle.packed.proofs.Laws.{too-long, bytes-are}
+use Rattle.packed.proofs.Laws.{name-found, name-missing, bytes-are, stamp-length, name-most}
 use Rattle.packed.proofs.read.Statement.{statement}
 use Rattle.packed.proofs.read.Tie as tie
-use Rattle.packed.proofs.read.Reads as reads
-use Rattle.packed.proofs.read.Lts as lts
-use Rattle.packed.proofs.is_filling.Reads as is-filling-reads
-use Rattle.stamps.proofs.is_lawful.Reads as is-lawful-reads
-use Rattle.packed.proofs.name_at.Reads as name-at-reads
-use Rattle.packed.proofs.refused.Reads as refused-reads
 
 -- ---- the ways of a reader of a stamp
+
+-- more bytes than the longest stamp has
+too-long : (b : List ℕ) → areBytes b ≡ true → 117 < length b → unpacked narrow b ≡ none
+too-long b h l = by (unpacked narrow b) refl
+  where
+    by : (o : Option Stamp) → unpacked narrow b ≡ o → unpacked narrow b ≡ none
+    by none e = e
+    by (some s) e =
+        let n = unpacked-names narrow (lit≤ tt) b s e in
+        absurd
+        (omega (arith, ap length (packed-unpacked narrow b s h e), stamp-length s, name-most (s .update) (n .0), name-most (s .id) (n .1)))
 
 malformed : (b : List ℕ) (g : Given) → g ≡ record { answer = Refused Malformed; stamp = blank narrow } → unpacked narrow b ≡ none → g ≡ readStamp narrow b
 unfolding readStamp
@@ -65,25 +71,18 @@ stored-test r e =
     ∙ ap (λ (x : Bool). lawful narrow (held r) && x) (and-both (words-refl (r .update)) (words-refl (r .id))) ∙ and-true (lawful narrow (held r))
 
 -- the stamp that reads, and what its record decides
-judged : (b : List ℕ) (r : Record) (next end : ℕ) (fine : Bool) → NameAt b 0 true next (r .update) → NameAt b next true end (r .id)
+judged : (b : List ℕ) (r : Record) (next end : ℕ) (x y fine : Bool) → NameAt b 0 x next (r .update) → x ≡ true → NameAt b next y end (r .id) → y ≡ true
     → true ≡ isFilling (drop end (bitsOf b)) → fine ≡ isStored narrow r
     → cond fine (record { answer = Done; stamp = r }) (record { answer = Refused Unlawful; stamp = blank narrow }) ≡ readStamp narrow b
 unfolding readStamp held stored first
-judged b r next end fine u i full e =
+judged b r next end x y fine u hu i hi full e =
     let shape : stored narrow (held r) ≡ r = λ k. record { update = u .whole k; id = i .whole k } in
-    by fine (e ∙ stored-test r shape) shape ∙ sym (ap (readAs narrow) (both b r next end true (u .reads) (i .reads) full))
+    by fine (e ∙ stored-test r shape) shape ∙ sym (ap (readAs narrow) (both b r next end true (name-found u hu) (name-found i hi) full))
   where
     by : (f : Bool) → f ≡ lawful narrow (held r) → stored narrow (held r) ≡ r
         → cond f (record { answer = Done; stamp = r }) (record { answer = Refused Unlawful; stamp = blank narrow }) ≡ readAs narrow (some (held r))
     by true h shape = rw (sym h) (λ k. record { answer = Done; stamp = sym shape k })
     by false h shape = rw (sym h)
-
--- the name that was told, or that there was none
-there : (b : List ℕ) (pos next : ℕ) (name : Words) (ok : Bool) → NameAt b pos ok next name → ok ≡ true → NameAt b pos true next name
-there b pos next name ok s e = rw e at s
-
-missing : (b : List ℕ) (pos next : ℕ) (name : Words) (ok : Bool) → NameAt b pos ok next name → ok ≡ false → takeName narrow (drop pos (bitsOf b)) ≡ none
-missing b pos next name ok s e = rw e at (s .reads)
 
 refused-requires : tie.Need-refused-requires
 refused-requires c κs = search needs
@@ -104,7 +103,7 @@ returns-2 : tie.Need-returns-2
 returns-2 c =
     let u = c .before .before .before in
     let b = u .before .before .before .args .b .now in
-    malformed b (c .refused2 .result) (c .refused2 .ensures) (no-update b (missing b 0 _ _ _ (u .name-at .ensures) (not-true _ (c .before .if2 .taken))))
+    malformed b (c .refused2 .result) (c .refused2 .ensures) (no-update b (name-missing (u .name-at .ensures) (not-true _ (c .before .if2 .taken))))
 
 name-at-requires-2 : tie.Need-name-at-requires-2
 name-at-requires-2 c κs = search needs
@@ -118,8 +117,8 @@ returns-3 c =
     let u = i .before .before .before in
     let b = u .before .before .before .args .b .now in
     malformed b (c .refused3 .result) (c .refused3 .ensures)
-    (no-id b _ (u .name-at .result .next) (there b 0 _ _ _ (u .name-at .ensures) (not-false _ (i .before .if2 .left)) .reads)
-    (missing b (u .name-at .result .next) _ _ _ (i .name-at2 .ensures) (not-true _ (c .before .if3 .taken))))
+    (no-id b _ (u .name-at .result .next) (name-found (u .name-at .ensures) (not-false _ (i .before .if2 .left)))
+    (name-missing (i .name-at2 .ensures) (not-true _ (c .before .if3 .taken))))
 
 is-filling-requires : tie.Need-is-filling-requires
 is-filling-requires c κs = search needs
@@ -135,8 +134,8 @@ returns-4 c =
     let b = u .before .before .before .args .b .now in
     malformed b (c .refused4 .result) (c .refused4 .ensures)
     (both b (record { update = u .name-at .result .name; id = i .name-at2 .result .name }) (u .name-at .result .next) (i .name-at2 .result .next) false
-    (there b 0 _ _ _ (u .name-at .ensures) (not-false _ (i .before .if2 .left)) .reads)
-    (there b (u .name-at .result .next) _ _ _ (i .name-at2 .ensures) (not-false _ (f .before .if3 .left)) .reads)
+    (name-found (u .name-at .ensures) (not-false _ (i .before .if2 .left)))
+    (name-found (i .name-at2 .ensures) (not-false _ (f .before .if3 .left)))
     (sym (not-true _ (c .before .if4 .taken)) ∙ f .is-filling .ensures))
 
 is-lawful-requires : tie.Need-is-lawful-requires
@@ -151,9 +150,9 @@ returns-5 c =
     let i = f .before .before .before in
     let u = i .before .before .before in
     let b = u .before .before .before .args .b .now in
-    c .refused5 .ensures ∙ judged b (record { update = u .name-at .result .name; id = i .name-at2 .result .name }) (u .name-at .result .next) (i .name-at2 .result .next) false
-    (there b 0 _ _ _ (u .name-at .ensures) (not-false _ (i .before .if2 .left)))
-    (there b (u .name-at .result .next) _ _ _ (i .name-at2 .ensures) (not-false _ (f .before .if3 .left)))
+    c .refused5 .ensures
+    ∙ judged b (record { update = u .name-at .result .name; id = i .name-at2 .result .name }) (u .name-at .result .next) (i .name-at2 .result .next)
+    _ _ false (u .name-at .ensures) (not-false _ (i .before .if2 .left)) (i .name-at2 .ensures) (not-false _ (f .before .if3 .left))
     (sym (not-false _ (c .before .before .before .before .before .if4 .left)) ∙ f .is-filling .ensures)
     (sym (not-true _ (c .before .if5 .taken)) ∙ c .before .before .is-lawful .ensures)
 
@@ -163,9 +162,8 @@ returns-6 c =
     let i = f .before .before .before in
     let u = i .before .before .before in
     let b = u .before .before .before .args .b .now in
-    judged b (record { update = u .name-at .result .name; id = i .name-at2 .result .name }) (u .name-at .result .next) (i .name-at2 .result .next) true
-    (there b 0 _ _ _ (u .name-at .ensures) (not-false _ (i .before .if2 .left)))
-    (there b (u .name-at .result .next) _ _ _ (i .name-at2 .ensures) (not-false _ (f .before .if3 .left)))
+    judged b (record { update = u .name-at .result .name; id = i .name-at2 .result .name }) (u .name-at .result .next) (i .name-at2 .result .next)
+    _ _ true (u .name-at .ensures) (not-false _ (i .before .if2 .left)) (i .name-at2 .ensures) (not-false _ (f .before .if3 .left))
     (sym (not-false _ (c .before .before .before .before .if4 .left)) ∙ f .is-filling .ensures)
     (sym (not-false _ (c .if5 .left)) ∙ c .before .is-lawful .ensures)
 

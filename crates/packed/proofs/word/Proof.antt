@@ -5,7 +5,7 @@ use native.Mathlib.Nat.{mul-assoc}
 use native.Mathlib.Omega.{arith}
 use borrow.Author.Needs.{needs}
 use lib.Pow.{pow-add, pow-mono, shl-exact, shl-lt}
-use Rattle.packed.proofs.Laws.{part-room}
+use Rattle.packed.proofs.Laws.{join-lt}
 use Rattle.packed.proofs.word.Statement.{statement}
 use Rattle.packed.proofs.word.Tie as tie
 
@@ -21,7 +21,7 @@ fits : (v n : ℕ) → n ≤ 24 → v < 2 ^ n → v * 2 ^ (64 - n) + n < 2 ^ 64
 fits v n hn hv =
     let m : 2 ^ 40 ≤ 2 ^ (64 - n) = pow-mono {i = 40} {j = 64 - n} (omega arith) in
     let e : n + (64 - n) ≡ 64 = omega arith in
-    rw e at (part-room v n (64 - n) n hv (omega arith))
+    rw e at (join-lt v n (64 - n) n hv (omega arith))
 
 sub-result : tie.Need-sub-result
 sub-result c = search needs

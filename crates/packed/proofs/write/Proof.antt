@@ -1,5 +1,5 @@
 -- `packed::write` meets its contract: lawful, then long enough, each tested before a byte is written. Assumes nothing.
-use mathlib.Core.Path.{_≡_, refl, sym, ap, _∙_}
+use mathlib.Core.Path.{_≡_, sym, ap, _∙_}
 use mathlib.Core.Bool.{true, false}
 use mathlib.Core.List.{List}
 use Prim.Native.Nat.{ℕ, _≤_, _<_}
@@ -16,11 +16,6 @@ use Rattle.rules.specs.declared.Written.the-variants.{Bytes, Refused as NotWrit
 use borrow.Author.Needs.{needs}
 use Rattle.packed.proofs.write.Statement.{statement}
 use Rattle.packed.proofs.write.Tie as tie
-use Rattle.packed.proofs.write.Reads as reads
-use Rattle.packed.proofs.write.Lts as lts
-use Rattle.packed.proofs.bytes_of.Reads as bytes-of-reads
-use Rattle.packed.proofs.put_stamp.Reads as put-stamp-reads
-use Rattle.stamps.proofs.is_lawful.Reads as is-lawful-reads
 
 -- the answer and what the buffer holds, of what was written
 both : (w v : Wrote) → v ≡ w → (w .answer ≡ v .answer) × (w .out ≡ v .out)

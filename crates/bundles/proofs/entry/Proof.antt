@@ -1,0 +1,81 @@
+-- `bundles::entry` meets its contract: the place that was found is handed on as a part of the bundle, and a refusal is told. Assumes nothing.
+use mathlib.Core.Path.{_≡_, sym, ap, _∙_, subst}
+use mathlib.Core.List.{List}
+use Prim.Native.Nat.{ℕ, _-_}
+use native.Mathlib.Omega.{arith}
+use borrow.Author.Needs.{needs}
+use lib.ListN.{take, drop}
+use Rattle.rules.specs.Limits.{narrow}
+use Rattle.rules.specs.Stored.{blank}
+use Rattle.rules.specs.Packed.{readStamp}
+use Rattle.rules.specs.Bundles.{readPart, readEntry}
+use Rattle.rules.specs.declared.Given.{Given}
+use Rattle.rules.specs.declared.Refusal.{Refusal}
+use Rattle.rules.specs.declared.Answer.the-variants.{Refused}
+use Rattle.bundles.specs.Places.{placed, Inside}
+use Rattle.bundles.specs.declared.Place.{Place}
+use Rattle.bundles.specs.declared.Place.the-variants.{At, Refused as Nowhere}
+use Rattle.bundles.proofs.entry.Statement.{statement}
+use Rattle.bundles.proofs.entry.Tie as tie
+
+module _ (b : List ℕ) (k : ℕ) (p : Place) (e : placed b p ≡ Rattle.rules.specs.Bundles.entry narrow k b) where
+  told : (q : Place) → p ≡ q → readPart narrow (placed b q) ≡ readEntry narrow k b
+  unfolding readEntry
+  told q t = ap (λ (x : Place). readPart narrow (placed b x)) (sym t) ∙ ap (readPart narrow) e
+
+find-requires : tie.Need-find-requires
+find-requires c κs = search needs
+
+enum-known-p : tie.Need-enum-known-p
+enum-known-p c = search needs
+
+refused-requires : tie.Need-refused-requires
+refused-requires c κs = search needs
+
+enum-known-p-2 : tie.Need-enum-known-p-2
+enum-known-p-2 c = search needs
+
+sub-read : tie.Need-sub-read
+sub-read c =
+    let f = c .before .before .before in
+    subst (Inside (f .before .before .args .b .now)) (c .before .p2 .given .1) (f .find .ensures .1) .0
+
+part-read-start : tie.Need-part-read-start
+part-read-start c =
+    let f = c .before .before .before in
+    subst (Inside (f .before .before .args .b .now)) (c .before .p2 .given .1) (f .find .ensures .1) .0
+
+part-read-end : tie.Need-part-read-end
+part-read-end c =
+    let f = c .before .before .before in
+    subst (Inside (f .before .before .args .b .now)) (c .before .p2 .given .1) (f .find .ensures .1) .1
+
+read-requires : tie.Need-read-requires
+read-requires c κs = search needs
+
+returns : tie.Need-returns
+returns c =
+    let f = c .before .before .before .before in
+    let g = f .before .before .args in
+    c .refused .ensures ∙ told (g .b .now) (g .k) (f .find .result) (f .find .ensures .0) (Nowhere _) (c .before .before .p .given .1)
+
+returns-2 : tie.Need-returns-2
+returns-2 c =
+    let f = c .before .before .before .before .before in
+    let g = f .before .before .args in
+    c .read .ensures ∙ told (g .b .now) (g .k) (f .find .result) (f .find .ensures .0) (At _ _) (c .before .before .before .p2 .given .1)
+
+pub entry-spec : {M : Type 1} → statement M
+entry-spec =
+    tie.close
+    (tie.spec
+    find-requires
+    enum-known-p
+    refused-requires
+    enum-known-p-2
+    sub-read
+    part-read-start
+    part-read-end
+    read-requires
+    returns
+    returns-2)
