@@ -1,7 +1,7 @@
 /* The four calls once more, told over text: bits are the characters 0 and 1, a string is a C string, a name an
  * unsorted heap of them. Nothing is shared with the library, neither code nor representation: order is strcmp,
- * prefix is strncmp, and reduction goes by the closed form (a string is full when it is held, or both its
- * children are full). Speed does not matter here. */
+ * prefix is strncmp, and reduction settles the id alone and then lifts the update to it in one go. */
+#define _GNU_SOURCE
 #include "second.h"
 #include <stdlib.h>
 #include <string.h>
@@ -29,6 +29,13 @@ static int holds(const name *n, const char *s) {
 
 static void put(name *n, const char *s) {
     if (!holds(n, s)) strcpy(n->s[n->n++], s);
+}
+
+static void drop(name *n, const char *s) {
+    char gone[WIDTH];
+    strcpy(gone, s);
+    for (int k = 0; k < n->n; k++)
+        if (strcmp(n->s[k], gone) == 0) memmove(n->s[k], n->s[--n->n], WIDTH);
 }
 
 static int covers(const name *n, const char *s) {
@@ -101,28 +108,25 @@ static int read_stamp(const uint8_t *b, size_t len, stamp *x) {
 
 /* ---- writing: the bits as text first */
 
-static void number_text(char *to, int v, int w) {
-    char f[WIDTH];
-    for (int k = 0; k < w; k++) f[k] = (v >> (w - 1 - k)) & 1 ? '1' : '0';
-    f[w] = 0;
-    strcat(to, f);
+static char *number_text(char *to, int v, int w) {
+    for (int k = w - 1; k >= 0; k--) *to++ = (v >> k) & 1 ? '1' : '0';
+    return to;
 }
 
-static void name_text(char *to, name n) {
+static char *name_text(char *to, name n) {
     qsort(n.s, (size_t)n.n, sizeof n.s[0], by_text);
-    number_text(to, n.n - 1, 4);
+    to = number_text(to, n.n - 1, 4);
     for (int k = 0; k < n.n; k++) {
-        number_text(to, (int)strlen(n.s[k]), 5);
-        strcat(to, n.s[k]);
+        to = number_text(to, (int)strlen(n.s[k]), 5);
+        to = stpcpy(to, n.s[k]);
     }
+    return to;
 }
 
 static size_t pack(const stamp *x, uint8_t *to) {
-    char text[2 * ROOM * WIDTH] = "";
-    name_text(text, x->u);
-    name_text(text, x->i);
-    while (strlen(text) % 8) strcat(text, "0");
-    size_t n = strlen(text) / 8;
+    char text[2 * ROOM * WIDTH], *end = name_text(name_text(text, x->u), x->i);
+    while ((end - text) % 8) *end++ = '0';
+    size_t n = (size_t)(end - text) / 8;
     for (size_t k = 0; k < n; k++) {
         char byte[9] = {0};
         memcpy(byte, text + 8 * k, 8);
@@ -154,7 +158,7 @@ static int read_two(const uint8_t *first, size_t first_len, const uint8_t *secon
     return 0;
 }
 
-/* ---- join by the closed form */
+/* ---- join */
 
 static void unite(const name *m, const name *n, name *to) {
     name all = *m;
@@ -168,39 +172,28 @@ static void unite(const name *m, const name *n, name *to) {
     }
 }
 
-static int full(const name *i, const char *s) {
-    if (holds(i, s)) return 1;
-    size_t len = strlen(s);
-    if (len >= DIGITS || !covers(i, s)) return 0;
-    char half[WIDTH];
-    strcpy(half, s);
-    half[len + 1] = 0;
-    half[len] = '0';
-    if (!full(i, half)) return 0;
-    half[len] = '1';
-    return full(i, half);
-}
-
-/* The shortest full prefix of s, or s itself where there is none. */
-static void lifted(const name *i, const char *s, char *to) {
-    for (size_t len = 0; len <= strlen(s); len++) {
-        memcpy(to, s, len);
-        to[len] = 0;
-        if (full(i, to)) return;
-    }
-    strcpy(to, s);
-}
-
+/* Twins become what they share, until there are none; then a string of the update that such a string now begins is lifted to it. */
 static void reduce(const stamp *x, stamp *to) {
     char t[WIDTH];
-    to->u.n = to->i.n = 0;
-    for (int k = 0; k < x->u.n; k++) {
-        lifted(&x->i, x->u.s[k], t);
-        put(&to->u, t);
+    to->i = x->i;
+    to->u.n = 0;
+    for (int k = 0; k < to->i.n;) {
+        strcpy(t, to->i.s[k]);
+        size_t len = strlen(t);
+        if (len) t[len - 1] ^= 1;
+        if (len && holds(&to->i, t)) {
+            drop(&to->i, to->i.s[k]);
+            drop(&to->i, t);
+            t[len - 1] = 0;
+            put(&to->i, t);
+            k = 0;
+        } else k++;
     }
-    for (int k = 0; k < x->i.n; k++) {
-        lifted(&x->i, x->i.s[k], t);
-        put(&to->i, t);
+    for (int k = 0; k < x->u.n; k++) {
+        const char *lifted = x->u.s[k];
+        for (int j = 0; j < to->i.n; j++)
+            if (below_string(to->i.s[j], x->u.s[k])) lifted = to->i.s[j];
+        put(&to->u, lifted);
     }
 }
 

@@ -1,0 +1,71 @@
+/* Ebbmuslin: which copies of a record set have seen which edits.
+ *
+ * Each copy of a set carries a stamp, 3 to 117 bytes. Keep it beside the copy. These four calls make the stamp of an edited
+ * copy, of a copy made from another, of two copies that became one, and say how two copies stand to each other. They read
+ * no clock, no file and no list of stations. Link libebbmuslin.a (rt staticlib ebbmuslin; x86-64 Linux).
+ *
+ * The first copy of a set has the stamp of three zero bytes, EBBMUSLIN_FIRST below. Every other copy comes from a fork.
+ *
+ * What no compiler checks, and the caller must see to:
+ *  - A pointer with a length is the address of that many bytes. A null pointer with length 0 has been tested and is taken as
+ *    an empty slice; any valid address with length 0 is safer.
+ *  - An output must not overlap another argument, neither an input nor the other output: to update a stamp in place, write
+ *    into a second buffer and copy it back. Two inputs may overlap, or be the same bytes.
+ *  - No alignment is asked of any pointer.
+ *  - EBBMUSLIN_MOST bytes always suffice for an output. A shorter one is refused (10) where the result does not fit.
+ *  - The calls keep nothing between them and may be made from any number of threads, on buffers of their own.
+ *
+ * A refused call writes nothing. An accepted one writes the result at the front of the output and keeps the rest of it.
+ */
+#ifndef EBBMUSLIN_H
+#define EBBMUSLIN_H
+
+#include <stddef.h>
+#include <stdint.h>
+
+#ifdef __cplusplus
+extern "C" {
+#endif
+
+/* No stamp is longer. */
+#define EBBMUSLIN_MOST 117
+
+/* The stamp of the first copy of a set: three bytes, all zero. */
+#define EBBMUSLIN_FIRST "\0\0\0"
+#define EBBMUSLIN_FIRST_LEN 3
+
+/* What ebbmuslin_compare says of the first copy beside the second. */
+#define EBBMUSLIN_EQUAL 0    /* both have seen the same edits: either may go */
+#define EBBMUSLIN_OBSOLETE 1 /* the second has seen all that the first has, and more: take the second */
+#define EBBMUSLIN_NEWER 2    /* the first has seen all that the second has, and more: take the first */
+#define EBBMUSLIN_CONFLICT 3 /* each has seen edits that the other lacks: somebody must settle it */
+
+/* A result of EBBMUSLIN_REFUSED or more is a refusal: 1,000 plus its number. */
+#define EBBMUSLIN_REFUSED 1000
+#define EBBMUSLIN_MALFORMED 1001 /* these bytes are no packed stamp: cut short, damaged, or something else; fetch them again */
+#define EBBMUSLIN_UNLAWFUL 1002  /* the bytes read, and say something that no copy's stamp says: do not use them; call us */
+#define EBBMUSLIN_LONG 1006      /* fork: this copy has been forked too often since it was last joined; join some copies first */
+#define EBBMUSLIN_MANY 1007      /* join: the result would not fit a stamp; join copies that were forked from each other first */
+#define EBBMUSLIN_OVERLAP 1008   /* the two carry one identity: a copy was cloned with its stamp, in place of a fork; neither may replace the other */
+#define EBBMUSLIN_UNSEEN 1009    /* one of the two is not what its stamp says: a stamp was put back from an older backup, or cloned */
+#define EBBMUSLIN_SHORT 1010     /* an output buffer is too short for the result */
+
+/* After an edit of the copy: its new stamp into out. Gives the bytes written. Refused: 1, 2, 10. */
+uint64_t ebbmuslin_update(const uint8_t *stamp, size_t stamp_len, uint8_t *out, size_t out_len);
+
+/* To make a copy of a copy: the stamp that the old copy has from now on into zero, that of the new copy into one. They have the
+ * same length, which is given. If either buffer is too short, neither is written. Refused: 1, 2, 6, 10. */
+uint64_t ebbmuslin_fork(const uint8_t *stamp, size_t stamp_len, uint8_t *zero, size_t zero_len, uint8_t *one, size_t one_len);
+
+/* Two copies become one that has seen the edits of both: its stamp into out; the stamps of the two must not be used again.
+ * Gives the bytes written. Refused: 1 and 2 of the first, 1 and 2 of the second, 8, 9, 7, 10. */
+uint64_t ebbmuslin_join(const uint8_t *first, size_t first_len, const uint8_t *second, size_t second_len, uint8_t *out, size_t out_len);
+
+/* How the first copy stands to the second: a verdict, 0 to 3. Refused: 1 and 2 of the first, 1 and 2 of the second, 8, 9. */
+uint64_t ebbmuslin_compare(const uint8_t *first, size_t first_len, const uint8_t *second, size_t second_len);
+
+#ifdef __cplusplus
+}
+#endif
+
+#endif
