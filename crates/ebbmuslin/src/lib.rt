@@ -2,7 +2,8 @@
 ghost use mathlib.Core.Path.{_≡_};
 ghost use Rattle.rules.specs.Limits.{narrow};
 ghost use Rattle.rules.specs.Packed.{packedUpdate, packedFork, packedJoin, packedCompare, writtenNumber, comparedNumber};
-use answers::{compared_code, written_code};
+use answers::compared_code;
+use answers::written_code;
 
 // The stamp after an edit, into out: the bytes written, or 1,000 and the refusal.
 #[no_mangle]
