@@ -260,7 +260,7 @@ int main(int argc, char **argv) {
     static const unsigned must[] = {0, 1, 2, 3, 117, 1001, 1002, 1006, 1007, 1008, 1009, 1010};
     for (size_t k = 0; k < sizeof must / sizeof must[0]; k++) {
         printf("%u: %" PRIu64 "\n", must[k], met[must[k]]);
-        if (met[must[k]] == 0 && rounds >= 100000) {
+        if (met[must[k]] == 0 && rounds >= 50000) {
             printf("%u was never met\n", must[k]);
             return 1;
         }

@@ -1,7 +1,7 @@
 -- What is read as a stamp is the stored shape of a lawful one, and so is what the rules make of such records: none of the later tests for
 -- an unlawful record holds, and a packed call ends as writing the rules' result does. Assumes nothing.
 use mathlib.Core.Path.{_≡_, refl, sym, ap, _∙_, subst}
-use mathlib.Core.Bool.{Bool, true, false, cond, not}
+use mathlib.Core.Bool.{Bool, true, false, not}
 use mathlib.Core.List.{List, [], _∷_}
 use mathlib.Core.Option.{Option, none, some}
 use Prim.Native.Nat.{ℕ, _≤_}
@@ -10,13 +10,12 @@ use borrow.Author.Tests.{not-false, le-ltb}
 use lib.ListN.{length}
 use Rattle.rules.specs.Limits.{Limits}
 use Rattle.rules.specs.Stamps.{Stamp, lawful, update, fork, join}
-use Rattle.rules.specs.Stored.{stored, held, isStored, unlawful, blank}
+use Rattle.rules.specs.Stored.{held, isStored, unlawful}
 use Rattle.rules.specs.Refusals.{first, long, many, overlap, unseen}
-use Rattle.rules.specs.Values.{given, branches, updated, forked, meeting, joined}
+use Rattle.rules.specs.Values.{given, branches, updated, forked, joined}
 use Rattle.rules.specs.Packed.{Wrote, packed, over, unpacked, readAs, readStamp, wrote, writtenStamp}
 use Rattle.rules.specs.declared.Record.{Record}
 use Rattle.rules.specs.declared.Given.{Given}
-use Rattle.rules.specs.declared.Forked.{Forked}
 use Rattle.rules.specs.declared.Refusal.{Refusal}
 use Rattle.rules.specs.declared.Refusal.the-variants.{Unlawful, Long, Many, Overlap, Unseen}
 use Rattle.rules.specs.declared.Answer.{Answer}

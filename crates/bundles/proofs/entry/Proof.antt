@@ -1,17 +1,10 @@
 -- `bundles::entry` meets its contract: the place that was found is handed on as a part of the bundle, and a refusal is told. Assumes nothing.
 use mathlib.Core.Path.{_≡_, sym, ap, _∙_, subst}
 use mathlib.Core.List.{List}
-use Prim.Native.Nat.{ℕ, _-_}
-use native.Mathlib.Omega.{arith}
+use Prim.Native.Nat.{ℕ}
 use borrow.Author.Needs.{needs}
-use lib.ListN.{take, drop}
 use Rattle.rules.specs.Limits.{narrow}
-use Rattle.rules.specs.Stored.{blank}
-use Rattle.rules.specs.Packed.{readStamp}
 use Rattle.rules.specs.Bundles.{readPart, readEntry}
-use Rattle.rules.specs.declared.Given.{Given}
-use Rattle.rules.specs.declared.Refusal.{Refusal}
-use Rattle.rules.specs.declared.Answer.the-variants.{Refused}
 use Rattle.bundles.specs.Places.{placed, Inside}
 use Rattle.bundles.specs.declared.Place.{Place}
 use Rattle.bundles.specs.declared.Place.the-variants.{At, Refused as Nowhere}

@@ -9,7 +9,7 @@ use borrow.Author.Tests.{lt-ltb, le-ltb}
 use lib.ListN.{length, take, drop, length-drop}
 use lib.Seq.{drop-drop, length-take-le}
 use Rattle.rules.specs.Limits.{narrow}
-use Rattle.rules.specs.Bundles.{part, noEntry, frontEntry, entryIn, entry}
+use Rattle.rules.specs.Bundles.{noEntry, frontEntry, entryIn, entry}
 use Rattle.rules.specs.declared.Refusal.{Refusal}
 use Rattle.rules.specs.declared.Refusal.the-variants.{Malformed}
 use Rattle.bundles.specs.Places.{placed, Inside, Begins}
@@ -59,10 +59,10 @@ abbrev μ-loop : tie.MeasureT-loop
 μ-loop b k at₀ left₀ at left = length b - at
 
 returns : tie.Need-returns Inv-loop μ-loop
-returns c = (too-large (c .before .before .args .b .now) (c .before .before .args .k) (c .if1 .taken), tt)
+returns c = (too-large (c .before .before .args .b .now) (c .before .before .args .k) (omega (arith, c .if1 .taken)), tt)
 
 loop-holds : tie.Need-loop-holds Inv-loop μ-loop
-loop-holds c = from-start (c .before .before .args .b .now) (c .before .before .args .k) (c .if1 .left)
+loop-holds c = from-start (c .before .before .args .b .now) (c .before .before .args .k) (omega (arith, c .if1 .left))
 
 front-requires : tie.Need-front-requires Inv-loop μ-loop
 front-requires c κs = search needs

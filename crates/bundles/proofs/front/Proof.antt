@@ -1,9 +1,9 @@
 -- `bundles::front` meets its contract: the list from `at` on is the length byte there and what comes behind it, and the code's tests are
 -- those of that byte and that rest. Assumes nothing.
 use mathlib.Core.Path.{_≡_, refl, sym, ap, _∙_}
-use mathlib.Core.Bool.{true, false, cond}
-use mathlib.Core.List.{List, [], _∷_}
-use Prim.Native.Nat.{ℕ, suc, _+_, _-_, _≤_, _<_}
+use mathlib.Core.Bool.{cond}
+use mathlib.Core.List.{List}
+use Prim.Native.Nat.{ℕ, _+_, _-_, _≤_, _<_}
 use native.Mathlib.Nat.{add-sub-cancel-left}
 use native.Mathlib.Numerals.{add-one}
 use native.Mathlib.Omega.{arith}
@@ -12,7 +12,7 @@ use borrow.Author.Tests.{lt-ltb, le-ltb}
 use lib.ListN.{length, getD, take, drop, length-drop, drop-of-length-le}
 use lib.Seq.{drop-cons}
 use Rattle.rules.specs.Limits.{narrow}
-use Rattle.rules.specs.Bundles.{Entry, part, noEntry, badEntry, frontEntry}
+use Rattle.rules.specs.Bundles.{part, noEntry, badEntry, frontEntry}
 use Rattle.rules.specs.declared.Refusal.the-variants.{Malformed, Ended}
 use Rattle.bundles.proofs.front.Statement.{statement}
 use Rattle.bundles.proofs.front.Tie as tie
@@ -64,12 +64,12 @@ cast-n c = omega (arith, c .shared-slice-known .given (c .before .before .args .
 returns-2 : tie.Need-returns-2
 returns-2 c =
     let e = c .before .before in
-    (too-small (e .before .args .b .now) (e .before .args .at) (e .if1 .left) (c .if2 .taken), tt, tt)
+    (too-small (e .before .args .b .now) (e .before .args .at) (e .if1 .left) (omega (arith, c .if2 .taken)), tt, tt)
 
 returns-3 : tie.Need-returns-3
 returns-3 c =
     let e = c .before .before .before in
-    (too-large (e .before .args .b .now) (e .before .args .at) (e .if1 .left) (c .before .if2 .left) (c .if3 .taken), tt, tt)
+    (too-large (e .before .args .b .now) (e .before .args .at) (e .if1 .left) (omega (arith, c .before .if2 .left)) (omega (arith, c .if3 .taken)), tt, tt)
 
 add-from : tie.Need-add-from
 add-from c = search needs
@@ -81,7 +81,7 @@ returns-4 : tie.Need-returns-4
 returns-4 c =
     let t = c .before in
     let e = t .before .before .before in
-    (cut-short (e .before .args .b .now) (e .before .args .at) (e .if1 .left) (t .before .if2 .left) (t .if3 .left) (c .if4 .taken), tt, tt)
+    (cut-short (e .before .args .b .now) (e .before .args .at) (e .if1 .left) (omega (arith, t .before .if2 .left)) (omega (arith, t .if3 .left)) (omega (arith, c .if4 .taken)), tt, tt)
 
 add-to : tie.Need-add-to
 add-to c = search needs
@@ -92,7 +92,7 @@ returns-5 c =
     let e = t .before .before .before in
     let m = c .if4 .left in
     let h = e .if1 .left in
-    (fits (e .before .args .b .now) (e .before .args .at) h (t .before .if2 .left) (t .if3 .left) m, (omega arith, omega arith), refl)
+    (fits (e .before .args .b .now) (e .before .args .at) h (omega (arith, t .before .if2 .left)) (omega (arith, t .if3 .left)) (omega arith), (omega arith, omega arith), refl)
 
 pub front-spec : {M : Type 1} → statement M
 front-spec =

@@ -1,6 +1,6 @@
 -- `calls::fork` meets its contract: what the reader refuses is passed out, then what the fork refuses. Both branches of a lawful stamp are
 -- lawful and take the same number of bytes, so that one size decides for both buffers before either is written. Assumes nothing.
-use mathlib.Core.Path.{_≡_, refl, sym, ap, _∙_, subst}
+use mathlib.Core.Path.{_≡_, refl, sym, ap, _∙_}
 use mathlib.Core.Bool.{true, cond}
 use mathlib.Core.List.{List, []}
 use Prim.Native.Nat.{ℕ, _≤_, _<_}

@@ -1,6 +1,6 @@
 -- `calls::join` meets its contract: what the readers refuse is passed out, the first's before the second's, then what the join refuses;
 -- two lawful stamps that join make a lawful one, so that only a short buffer is left to refuse. Assumes nothing.
-use mathlib.Core.Path.{_≡_, sym, ap, _∙_}
+use mathlib.Core.Path.{_≡_, sym}
 use mathlib.Core.Bool.{true}
 use mathlib.Core.List.{List}
 use Prim.Native.Nat.{ℕ}

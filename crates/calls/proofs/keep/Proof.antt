@@ -1,15 +1,12 @@
 -- `calls::keep` meets its contract: each verdict's own side is given back, by the reference itself; the empty part has the first's address.
 -- Assumes nothing.
-use mathlib.Core.Path.{_≡_, refl, sym, ap, _∙_}
+use mathlib.Core.Path.{refl, sym, ap, _∙_}
 use Prim.Native.Nat.{ℕ}
 use native.Mathlib.Nat.{zero-add}
 use borrow.Author.Needs.{needs}
 use Rattle.rules.specs.declared.Compared.the-variants.{Is}
 use Rattle.calls.proofs.keep.Statement.{statement}
 use Rattle.calls.proofs.keep.Tie as tie
-use Rattle.calls.proofs.keep.Reads as reads
-use Rattle.calls.proofs.keep.Lts as lts
-use Rattle.calls.proofs.compare.Reads as compare-reads
 
 compare-requires : tie.Need-compare-requires
 compare-requires c κs = search needs

@@ -1,13 +1,11 @@
 -- `calls::update` meets its contract: a refusal of the reader is passed out, and what is read is lawful, so that its update is too,
 -- and only a short buffer is left to refuse. Assumes nothing.
-use mathlib.Core.Path.{_≡_, refl, sym, ap, _∙_}
-use mathlib.Core.Bool.{true}
+use mathlib.Core.Path.{_≡_, sym}
 use mathlib.Core.List.{List}
 use Prim.Native.Nat.{ℕ}
 use borrow.Author.Needs.{needs}
 use lib.Dec.{lit≤}
 use Rattle.rules.specs.Limits.{narrow}
-use Rattle.rules.specs.Stored.{isStored}
 use Rattle.rules.specs.Values.{updated}
 use Rattle.rules.specs.Packed.{readStamp, wrote, writtenStamp, packedUpdate}
 use Rattle.rules.specs.declared.Given.{Given}
@@ -17,12 +15,6 @@ use Rattle.rules.specs.declared.Written.the-variants.{Refused as NotWritten}
 use Rattle.calls.proofs.Laws.{tells-same, tells-refused, read-stored, updated-done, updated-stored, written-is}
 use Rattle.calls.proofs.update.Statement.{statement}
 use Rattle.calls.proofs.update.Tie as tie
-use Rattle.calls.proofs.update.Reads as reads
-use Rattle.calls.proofs.update.Lts as lts
-use Rattle.calls.proofs.refused.Reads as refused-reads
-use Rattle.packed.proofs.read.Reads as read-reads
-use Rattle.packed.proofs.write.Reads as write-reads
-use Rattle.stamps.proofs.update.Reads as update-reads
 
 module _ (s l : List ℕ) (g : Given) (e : g ≡ readStamp narrow s) where
   not-read : (r : Refusal) → g .answer ≡ Refused r → packedUpdate narrow s l ≡ record { answer = NotWritten r; out = l }

@@ -1,0 +1,109 @@
+-- The slot that some bytes name: none where there are more than two or a space among them, and never above 99. Assumes nothing.
+use mathlib.Core.Path.{_≡_, refl}
+use mathlib.Core.Bool.{Bool, true, false, cond, not, _&&_}
+use mathlib.Core.List.{[], _∷_}
+use mathlib.Core.Option.{none, some}
+use Prim.Native.Nat.{ℕ, suc, _+_, _*_, _-_, _≤_, _<_}
+use native.Mathlib.Omega.{arith}
+use borrow.Author.Tests.{leb-true, eqb-true, lt-ltb, ne-eqb}
+use lib.Dec.{eqb, leb}
+use lib.ListN.{length, getD}
+use Rattle.rules.specs.Traces.{Text, slotOf, isDigit}
+use Rattle.laws.proofs.Tests.{and-left, and-right}
+use Rattle.lines.specs.Inner.{orNone, digitOf, twoDigits, firstAt}
+
+pub and-false : (a : Bool) → (a && false) ≡ false
+and-false true = refl
+and-false false = refl
+
+digit-le : (x : ℕ) → isDigit x ≡ true → x ≤ 57
+digit-le x e = leb-true x 57 (and-right (leb 48 x) (leb x 57) e)
+
+no-slot : {a : ℕ} → none ≡ some a → ⊥
+no-slot e = let z : _≡_ {A = ℕ} 0 1 = cc in omega arith
+
+-- a space is no digit
+pub slot-space : (l : Text) → firstAt 32 l < length l → slotOf l ≡ none
+unfolding slotOf firstAt
+slot-space [] h = refl
+slot-space (x ∷ []) h = by (eqb x 32) refl h
+  where
+    by : (b : Bool) → eqb x 32 ≡ b → cond b 0 1 < 1 → cond (isDigit x) (some (x - 48)) none ≡ none
+    by true e h = rw (eqb-true x 32 e)
+    by false e h = absurd (omega arith)
+slot-space (x ∷ (y ∷ [])) h = by (eqb x 32) (eqb y 32) refl refl h
+  where
+    by : (a b : Bool) → eqb x 32 ≡ a → eqb y 32 ≡ b → cond a 0 (suc (cond b 0 1)) < 2
+        → cond (isDigit x && isDigit y && not (eqb x 48)) (some ((x - 48) * 10 + (y - 48))) none ≡ none
+    by true b e f h = rw (eqb-true x 32 e)
+    by false true e f h = rw (eqb-true y 32 f, and-false)
+    by false false e f h = absurd (omega arith)
+slot-space (x ∷ (y ∷ (z ∷ l))) h = refl
+
+pub slot-short : (l : Text) → 3 ≤ length l → slotOf l ≡ none
+unfolding slotOf
+slot-short [] h = absurd (omega arith)
+slot-short (x ∷ []) h = absurd (omega arith)
+slot-short (x ∷ (y ∷ [])) h = absurd (omega arith)
+slot-short (x ∷ (y ∷ (z ∷ l))) h = refl
+
+-- every slot is below 100, so 100 says that there is none
+pub slot-below : (l : Text) (a : ℕ) → slotOf l ≡ some a → a < 100
+unfolding slotOf
+slot-below [] a e = absurd (no-slot e)
+slot-below (x ∷ []) a e = by (isDigit x) refl e
+  where
+    by : (b : Bool) → isDigit x ≡ b → cond b (some (x - 48)) none ≡ some a → a < 100
+    by true f e = let k : x - 48 ≡ a = cc in omega (arith, digit-le x f)
+    by false f e = absurd (no-slot e)
+slot-below (x ∷ (y ∷ [])) a e = by (isDigit x && isDigit y && not (eqb x 48)) refl e
+  where
+    by : (b : Bool) → (isDigit x && isDigit y && not (eqb x 48)) ≡ b → cond b (some ((x - 48) * 10 + (y - 48))) none ≡ some a → a < 100
+    by true f e =
+        let k : (x - 48) * 10 + (y - 48) ≡ a = cc in
+        let g = and-left (isDigit x) (isDigit y) (and-left (isDigit x && isDigit y) (not (eqb x 48)) f) in
+        let h = and-right (isDigit x) (isDigit y) (and-left (isDigit x && isDigit y) (not (eqb x 48)) f) in
+        omega (arith, digit-le x g, digit-le y h)
+    by false f e = absurd (no-slot e)
+slot-below (x ∷ (y ∷ (z ∷ l))) a e = absurd (no-slot e)
+
+-- by the number of bytes: one digit; two, of which the first is 0 or not; any other number
+pub slot-one : (l : Text) → length l ≡ 1 → digitOf (getD l 0 0) ≡ orNone (slotOf l)
+unfolding slotOf
+slot-one [] h = absurd (omega arith)
+slot-one (x ∷ []) h = by (isDigit x)
+  where
+    by : (b : Bool) → cond b (x - 48) 100 ≡ orNone (cond b (some (x - 48)) none)
+    by true = refl
+    by false = refl
+slot-one (x ∷ (y ∷ l)) h = absurd (omega arith)
+
+pub slot-zero : (l : Text) → length l ≡ 2 → getD l 0 0 ≡ 48 → 100 ≡ orNone (slotOf l)
+unfolding slotOf
+slot-zero [] h e = refl
+slot-zero (x ∷ []) h e = absurd (omega arith)
+slot-zero (x ∷ (y ∷ [])) h e = rw (e, and-false)
+slot-zero (x ∷ (y ∷ (z ∷ l))) h e = refl
+
+pub slot-two : (l : Text) → length l ≡ 2 → (getD l 0 0 ≡ 48 → ⊥) → twoDigits (digitOf (getD l 0 0)) (digitOf (getD l 1 0)) ≡ orNone (slotOf l)
+unfolding slotOf
+slot-two [] h e = absurd (omega arith)
+slot-two (x ∷ []) h e = absurd (omega arith)
+slot-two (x ∷ (y ∷ [])) h e = rw (ne-eqb x 48 e) (by (isDigit x) (isDigit y) refl refl)
+  where
+    by : (a b : Bool) → isDigit x ≡ a → isDigit y ≡ b
+        → twoDigits (cond a (x - 48) 100) (cond b (y - 48) 100) ≡ orNone (cond (a && b && true) (some ((x - 48) * 10 + (y - 48))) none)
+    by true true p q =
+        let g = digit-le x p in
+        let k = digit-le y q in
+        rw (lt-ltb (x - 48) 10 (omega arith), lt-ltb (y - 48) 10 (omega arith))
+    by true false p q = rw and-false
+    by false b p q = refl
+slot-two (x ∷ (y ∷ (z ∷ l))) h e = absurd (omega arith)
+
+pub slot-other : (l : Text) → (length l ≡ 1 → ⊥) → (length l ≡ 2 → ⊥) → 100 ≡ orNone (slotOf l)
+unfolding slotOf
+slot-other [] h k = refl
+slot-other (x ∷ []) h k = absurd (h refl)
+slot-other (x ∷ (y ∷ [])) h k = absurd (k refl)
+slot-other (x ∷ (y ∷ (z ∷ l))) h k = refl

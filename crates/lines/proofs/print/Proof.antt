@@ -1,0 +1,106 @@
+-- `lines::print` meets its contract. The loop's invariant: the answers to come, written from here on, are all answers written from the start;
+-- and each takes at most 11 bytes. The measure is how many are to come. Assumes nothing.
+use borrow.Author.Needs.{needs}
+use mathlib.Core.Path.{_≡_, refl, sym, ap, _∙_}
+use mathlib.Core.List.{List}
+use Prim.Native.Nat.{ℕ, _+_, _*_, _-_, _≤_}
+use native.Mathlib.Omega.{arith}
+use lib.ListN.{length, getD}
+use Rattle.lines.proofs.Texts.{answer-room}
+use Rattle.lines.proofs.Turns.{writes, writes-then, writes-all, writes-none, writes-short, writes-end, answersFrom, answers-more}
+use Rattle.lines.proofs.print.Statement.{statement}
+use Rattle.lines.proofs.print.Tie as tie
+
+abbrev Inv-loop : tie.InvT-loop
+Inv-loop commands count out₀ at₀ k₀ out at k =
+    (k ≤ count) × (at ≤ 11 * k) × (length out ≡ length out₀)
+    × (writes (answersFrom commands count k) out at ≡ writes (answersFrom commands count 0) out₀ 0)
+
+abbrev μ-loop : tie.MeasureT-loop
+μ-loop commands count out₀ at₀ k₀ out at k = count - k
+
+returns : tie.Need-returns Inv-loop μ-loop
+returns c = let g = c .before .before .before .args in writes-none (g .commands .now) (g .out .now) (g .count) (omega arith)
+
+returns-2 : tie.Need-returns-2 Inv-loop μ-loop
+returns-2 c = let g = c .before .before .before .before .args in writes-short (g .commands .now) (g .out .now) (g .count) (omega arith) (omega arith)
+
+loop-holds : tie.Need-loop-holds Inv-loop μ-loop
+loop-holds c = (search needs, search needs, refl, refl)
+
+mul-i : tie.Need-mul-i Inv-loop μ-loop
+mul-i c = search needs
+
+mul-put-answer : tie.Need-mul-put-answer Inv-loop μ-loop
+mul-put-answer c = search needs
+
+shared-slice-read-put-answer : tie.Need-shared-slice-read-put-answer Inv-loop μ-loop
+shared-slice-read-put-answer c = search needs
+
+add-put-answer : tie.Need-add-put-answer Inv-loop μ-loop
+add-put-answer c = search needs
+
+mul-put-answer-2 : tie.Need-mul-put-answer-2 Inv-loop μ-loop
+mul-put-answer-2 c = search needs
+
+shared-slice-read-put-answer-2 : tie.Need-shared-slice-read-put-answer-2 Inv-loop μ-loop
+shared-slice-read-put-answer-2 c = search needs
+
+put-answer-requires : tie.Need-put-answer-requires Inv-loop μ-loop
+put-answer-requires c κs = search needs
+
+add-k : tie.Need-add-k Inv-loop μ-loop
+add-k c = search needs
+
+loop-less : tie.Need-loop-less Inv-loop μ-loop
+loop-less c = search needs
+
+loop-again : tie.Need-loop-again Inv-loop μ-loop
+loop-again c =
+    let p = c .before .before in
+    let l = p .before .before .before .before .before in
+    let g = l .before .before .before .before .before .args in
+    let k = l .loop .k in
+    let room = answer-room (getD (g .commands .now) (3 * k) 0) (getD (g .commands .now) (3 * k + 1) 0) in (
+      search needs,
+      omega (arith, room, p .put-answer .ensures .place),
+      search needs,
+      sym (writes-then _ (answersFrom (g .commands .now) (g .count) (k + 1))
+          (l .loop .out) (l .loop .at) (p .put-answer .result) (p .put-answer .last .0) (p .put-answer .ensures))
+          ∙ (rw (answers-more (g .commands .now) (g .count) k (omega arith)) at (l .loop .inv .3)),
+    )
+
+same-length : tie.Need-same-length Inv-loop μ-loop
+same-length c = search needs
+
+returns-3 : tie.Need-returns-3 Inv-loop μ-loop
+returns-3 c =
+    let l = c .before in
+    let g = l .before .before .before .before .before .args in
+    let all =
+    sym (writes-end (g .commands .now) (l .loop .out) (g .count) (l .loop .k) (l .loop .at) (omega arith))
+    ∙ l .loop .inv .3
+    ∙ writes-all (g .commands .now) (g .out .now) (g .count) (omega arith) (omega arith) in
+    (ap (λ (r : ℕ × List ℕ). r .0) all, ap (λ (r : ℕ × List ℕ). r .1) all)
+
+pub print-spec : {M : Type 1} → statement M
+print-spec =
+    tie.close
+    (tie.spec
+    Inv-loop
+    μ-loop
+    returns
+    returns-2
+    loop-holds
+    mul-i
+    mul-put-answer
+    shared-slice-read-put-answer
+    add-put-answer
+    mul-put-answer-2
+    shared-slice-read-put-answer-2
+    put-answer-requires
+    add-k
+    loop-less
+    loop-again
+    same-length
+    returns-3)
