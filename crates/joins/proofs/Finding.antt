@@ -18,13 +18,13 @@ use Rattle.laws.proofs.Rising.{rising-head, rising-tail}
 use Rattle.laws.proofs.Settle.{drop-grown}
 use Rattle.laws.proofs.Pairs.{firstTwins, siblings-twins, neighbour-pair}
 use Rattle.laws.proofs.Words.{str-word, str-length, word-grown}
+use Rattle.laws.proofs.Shares.{grown-length}
 use Rattle.laws.proofs.Lawful.{Short}
 use Rattle.joins.specs.declared.Found.{Found}
 use Rattle.joins.specs.declared.Found.the-variants.{At, Nothing}
 use Rattle.joins.specs.Runs.{run}
 use Rattle.joins.specs.Working.{foundW}
 use Rattle.joins.proofs.Runs.{run-more}
-use Rattle.joins.proofs.Strings.{grown-length}
 
 -- a string that has a sibling has a digit
 pub siblings-filled : (a b : ℕ) → siblings (strOf a) (strOf b) ≡ true → 1 ≤ a

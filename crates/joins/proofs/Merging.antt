@@ -12,7 +12,7 @@ use lib.ListN.{length, length-append}
 use Rattle.rules.specs.Limits.{narrow}
 use Rattle.rules.specs.Names.{Name, union}
 use Rattle.rules.specs.Stamps.{Stamp, reduce, unite, join}
-use Rattle.rules.specs.Stored.{wordsOf, stored, strsIn, held, sameWords, isStoredName, isStored, blank}
+use Rattle.rules.specs.Stored.{wordsOf, stored, strsIn, held, isStored, blank}
 use Rattle.rules.specs.Refusals.{first, many}
 use Rattle.rules.specs.Values.{given}
 use Rattle.rules.specs.declared.Words.{Words}
@@ -20,12 +20,12 @@ use Rattle.rules.specs.declared.Record.{Record}
 use Rattle.rules.specs.declared.Given.{Given}
 use Rattle.rules.specs.declared.Refusal.the-variants.{Many}
 use Rattle.rules.specs.declared.Answer.the-variants.{Done, Refused}
-use Rattle.laws.proofs.Tests.{and-both, in-append}
+use Rattle.laws.proofs.Tests.{in-append}
 use Rattle.laws.proofs.Union.{union-top, union-rising}
 use Rattle.laws.proofs.Reduce.{reduce-proper}
 use Rattle.laws.proofs.Counts.{count-below, count-within}
-use Rattle.laws.proofs.Lawful.{Short, parts-name, Lawful, lawful-parts, lawful-proper, unite-proper}
-use Rattle.laws.proofs.Stored.{words-refl, stored-lawful, stored-is}
+use Rattle.laws.proofs.Lawful.{Short, Lawful, lawful-parts, lawful-proper, unite-proper}
+use Rattle.laws.proofs.Stored.{stored-lawful}
 use Rattle.joins.specs.declared.Wide.{Wide}
 use Rattle.joins.specs.declared.Both.{Both}
 use Rattle.joins.specs.Runs.{room, front, words}
@@ -38,16 +38,6 @@ use Rattle.joins.proofs.Reducing.{few-update}
 module _ (r : Record) (h : isStored narrow r ≡ true) where
   lawful-named : Lawful narrow (held r)
   lawful-named = lawful-parts narrow (held r) (stored-lawful narrow r h)
-
-  pub stored-names : (isStoredName narrow (r .update) ≡ true) × (isStoredName narrow (r .id) ≡ true)
-  unfolding isStoredName held stored
-  stored-names =
-      let e = stored-is narrow r h in
-      let same : (w : Words) → w ≡ wordsOf narrow (strsIn w) → sameWords w (wordsOf narrow (strsIn w)) ≡ true =
-      λ w p. subst (λ (v : Words). sameWords w v ≡ true) p (words-refl w) in (
-        and-both (parts-name narrow (strsIn (r .update)) (lawful-named .updateNamed)) (same (r .update) (ap (λ (x : Record). x .update) e)),
-        and-both (parts-name narrow (strsIn (r .id)) (lawful-named .idNamed)) (same (r .id) (ap (λ (x : Record). x .id) e)),
-      )
 
 -- ---- unions
 

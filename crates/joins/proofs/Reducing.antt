@@ -16,7 +16,7 @@ use Rattle.laws.proofs.Tests.{In}
 use Rattle.laws.proofs.Settle.{pair-in}
 use Rattle.laws.proofs.Steps.{settled-proper, settled-shorter}
 use Rattle.laws.proofs.Reduce.{reduce-settled}
-use Rattle.laws.proofs.Shares.{settle-short}
+use Rattle.laws.proofs.Shares.{grown-length, settle-short}
 use Rattle.laws.proofs.Counts.{count-below}
 use Rattle.laws.proofs.Lawful.{Short}
 use Rattle.joins.specs.declared.Both.{Both}
@@ -26,7 +26,7 @@ use Rattle.joins.specs.Runs.{room, front, wide}
 use Rattle.joins.specs.Passes.{passW}
 use Rattle.joins.specs.Working.{foundW, steppedBy, stepped, wideOf, bothOf, Sized}
 use Rattle.joins.proofs.Shapes.{wide-words, wide-count}
-use Rattle.joins.proofs.Strings.{pass-words, grown-length}
+use Rattle.joins.proofs.Strings.{pass-words}
 use Rattle.joins.proofs.Settling.{pass-settle}
 use Rattle.joins.proofs.Finding.{found-none, found-some}
 

@@ -14,6 +14,7 @@ use Rattle.rules.specs.declared.Words.{Words}
 use Rattle.laws.proofs.Words.{str-word}
 use Rattle.laws.proofs.Lawful.{Short, Named, name-parts}
 use Rattle.laws.proofs.Stored.{stored-name, stored-name-is}
+use Rattle.stamps.proofs.Laws.{stored-count}
 use Rattle.joins.specs.Runs.{room, front, words}
 use Rattle.joins.specs.Working.{wideOf, strs}
 use Rattle.joins.proofs.Runs.{front-append, front-wide, sets-zeros}
@@ -24,18 +25,11 @@ module _ (w : Words) (h : isStoredName narrow w ≡ true) where
   pub stored-named : Named narrow (strsIn w)
   stored-named = name-parts narrow (strsIn w) (stored-name narrow w h)
 
-  stored-count : w .count ≡ length (strsIn w)
-  unfolding wordsOf
-  stored-count = ap (λ (x : Words). x .count) (stored-name-is narrow w h)
-
-  pub stored-few : w .count ≤ narrow .strings
-  stored-few = omega (arith, stored-count, stored-named .few)
-
   pub stored-words : front (w .words) (w .count) ≡ map wordOf (strsIn w)
   unfolding wordsOf
   stored-words =
       ap₂ (λ (ws : List ℕ) (c : ℕ). front ws c) (ap (λ (x : Words). x .words) (stored-name-is narrow w h))
-      (stored-count ∙ sym (length-map (strsIn w) wordOf))
+      (stored-count narrow w h ∙ sym (length-map (strsIn w) wordOf))
       ∙ front-append (map wordOf (strsIn w)) (replicate (narrow .strings - length (strsIn w)) 0)
 
 -- what is copied into a name's record is the stored shape

@@ -7,12 +7,13 @@ use Prim.Native.Nat.{ℕ, _+_, _≤_}
 use native.Mathlib.Omega.{arith}
 use borrow.Author.Tests.{eqb-true, eq-eqb}
 use lib.Dec.{eqb, ltb}
-use lib.ListN.{length, length-append}
+use lib.ListN.{length}
 use Rattle.rules.specs.Strings.{Str, prefix, same, less, _▹_, wordOf}
 use Rattle.rules.specs.Names.{Name}
 use Rattle.laws.proofs.Tests.{iff, and-left, and-right, and-both, or-cases, or-left, or-right}
 use Rattle.laws.proofs.Prefix.{prefix-goes-on, prefix-grown, prefix-whole, same-is, is-same}
 use Rattle.laws.proofs.Words.{str-word, word-lt, word-length, less-words}
+use Rattle.laws.proofs.Shares.{grown-length}
 use Rattle.laws.proofs.Lawful.{Short}
 use Rattle.joins.specs.declared.Turn.{Turn}
 use Rattle.joins.specs.Passes.{opt, addedBy, settledBy, prefixW, addedTurn, settledTurn, turnOf, passBy}
@@ -26,9 +27,6 @@ turnS adding s t p = cond adding (addedBy p (prefix s t) (prefix t s) (less s t)
 
 abbrev pub passS : Bool → Str → Name → Name
 passS adding s n = passBy (turnS adding s) adding s false n
-
-pub grown-length : (s : Str) (d : Bool) → length (s ▹ d) ≡ length s + 1
-grown-length s d = length-append s (d ∷ [])
 
 -- one digit more, by prefix and length
 grown-test : (s t : Str) → (prefix s t && eqb (length t) (length s + 1)) ≡ isGrown s t
@@ -46,7 +44,7 @@ grown-test s t =
     back : (d : Bool) → same (s ▹ d) t ≡ true → (prefix s t && eqb (length t) (length s + 1)) ≡ true
     back d k =
         let e : s ▹ d ≡ t = same-is (s ▹ d) t k in
-        rw (← e) (and-both (prefix-grown s d) (eq-eqb (length (s ▹ d)) (length s + 1) (grown-length s d)))
+        rw (← e) (and-both (prefix-grown s d) (eq-eqb (length (s ▹ d)) (length s + 1) (omega (arith, grown-length s d))))
 
 -- ---- from words to strings
 

@@ -1,8 +1,8 @@
 // Join of two stamps by value: the unions of both names in working names of twice the room, then reduction, and only then the limit.
 ghost use mathlib.Core.Path.{_≡_};
-ghost use mathlib.Core.Bool.{Bool, true, false};
+ghost use mathlib.Core.Bool.{true, false};
 ghost use mathlib.Core.List.{[], _∷_};
-ghost use Prim.Native.Nat.{ℕ, _≤_, _<_, _+_};
+ghost use Prim.Native.Nat.{_≤_, _+_};
 ghost use lib.ListN.{length};
 ghost use lib.Seq.{sets};
 ghost use Rattle.rules.specs.Limits.{narrow};

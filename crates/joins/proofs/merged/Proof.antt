@@ -3,20 +3,22 @@ use mathlib.Core.Path.{_≡_}
 use mathlib.Core.Bool.{false}
 use native.Mathlib.Omega.{arith}
 use borrow.Author.Needs.{needs}
+use Rattle.rules.specs.Limits.{narrow}
 use Rattle.rules.specs.Stamps.{join}
 use Rattle.rules.specs.Stored.{held}
+use Rattle.stamps.proofs.Laws.{stored-names}
 use Rattle.joins.specs.Working.{bothOf}
-use Rattle.joins.proofs.Merging.{stored-names, united-ready, united-join, update-fits, too-many, few-enough}
+use Rattle.joins.proofs.Merging.{united-ready, united-join, update-fits, too-many, few-enough}
 use Rattle.joins.proofs.merged.Statement.{statement}
 use Rattle.joins.proofs.merged.Tie as tie
 
 unite-requires : tie.Need-unite-requires
 unite-requires c κs =
-    let g = c .before .before .before .before in (stored-names (g .args .a) (g .pre .0) .0, stored-names (g .args .b) (g .pre .1) .0)
+    let g = c .before .before .before .before in (stored-names narrow (g .args .a) (g .pre .0) .0, stored-names narrow (g .args .b) (g .pre .1) .0)
 
 unite-requires-2 : tie.Need-unite-requires-2
 unite-requires-2 c κs =
-    let g = c .before .before .before .before .before in (stored-names (g .args .a) (g .pre .0) .1, stored-names (g .args .b) (g .pre .1) .1)
+    let g = c .before .before .before .before .before in (stored-names narrow (g .args .a) (g .pre .0) .1, stored-names narrow (g .args .b) (g .pre .1) .1)
 
 reduce-requires : tie.Need-reduce-requires
 reduce-requires c κs =

@@ -13,13 +13,14 @@ use Rattle.rules.specs.Names.{union}
 use Rattle.rules.specs.Stored.{strsIn, isStoredName}
 use Rattle.rules.specs.declared.Words.{Words}
 use Rattle.laws.proofs.Lawful.{Short}
+use Rattle.stamps.proofs.Laws.{stored-few}
 use Rattle.joins.specs.declared.Wide.{Wide}
 use Rattle.joins.specs.Runs.{room, run, front, wide}
 use Rattle.joins.specs.Passes.{passW}
 use Rattle.joins.specs.Working.{wideOf}
 use Rattle.joins.proofs.Runs.{run-more, run-end, run-start, run-length, wide-self}
 use Rattle.joins.proofs.Passes.{pass-length}
-use Rattle.joins.proofs.Shapes.{stored-named, stored-few, stored-words}
+use Rattle.joins.proofs.Shapes.{stored-named, stored-words}
 use Rattle.joins.proofs.Adding.{unionW, union-more, union-end, union-words}
 use Rattle.joins.proofs.unite.Statement.{statement}
 use Rattle.joins.proofs.unite.Tie as tie
@@ -54,16 +55,16 @@ united m n hm hn =
     ap wide (ap₂ unionW (stored-words m hm) (stored-words n hn) ∙ union-words (strsIn m) (strsIn n) (short m hm) (short n hn) (stored-named n hn .rises))
 
 widen-requires : tie.Need-widen-requires Inv-loop μ-loop
-widen-requires c κs = stored-few (c .args .n) (c .pre .1)
+widen-requires c κs = stored-few narrow (c .args .n) (c .pre .1)
 
 loop-holds : tie.Need-loop-holds Inv-loop μ-loop
 loop-holds c =
     let g = c .before in
     let n = g .args .n in
-    let few = stored-few n (g .pre .1) in
+    let few = stored-few narrow n (g .pre .1) in
     let f = made (c .widen .result) (front (n .words) (n .count)) (omega (arith, run-length (n .words) 0 (n .count))) (c .widen .ensures) in (
       search needs,
-      stored-few (g .args .t1) (g .pre .0),
+      stored-few narrow (g .args .t1) (g .pre .0),
       omega (arith, f .0, run-length (n .words) 0 (n .count)),
       f .1,
       ap (λ (l : List ℕ). unionW l (held (c .widen .result))) (run-start (g .args .t1 .words) (g .args .t1 .count)),
@@ -107,7 +108,7 @@ returns c =
     let g = w .before in
     let m = g .args .t1 in
     let n = g .args .n in
-    let few = stored-few n (g .pre .1) in
+    let few = stored-few narrow n (g .pre .1) in
     let f = made (w .widen .result) (front (n .words) (n .count)) (omega (arith, run-length (n .words) 0 (n .count))) (w .widen .ensures) in
     l .loop .inv .3
     ∙ ap wide
