@@ -1,11 +1,10 @@
 -- A table filled slot by slot from the front is the fresh table. Assumes nothing.
-use mathlib.Core.Path.{_≡_, refl, sym, ap, _∙_}
-use mathlib.Core.Bool.{Bool, true, false, cond, _||_}
-use mathlib.Core.List.{List, [], _∷_}
+use mathlib.Core.Path.{_≡_, refl, sym, _∙_}
+use mathlib.Core.Bool.{Bool, true, false, cond}
 use Prim.Native.Nat.{ℕ, zero, suc, _+_, _≤_, _<_}
 use native.Mathlib.Numerals.{add-one}
 use native.Mathlib.Omega.{arith}
-use borrow.Author.Tests.{eqb-true, eqb-false, ltb-true, ltb-false, eq-eqb, ne-eqb}
+use borrow.Author.Tests.{eqb-true, eqb-false}
 use lib.Dec.{eqb, ltb}
 use lib.ListN.{length, getD, set, replicate, length-set, length-replicate, getD-replicate}
 use lib.Seq.{ext-getD, getD-set-same, getD-set-other}
@@ -14,7 +13,6 @@ use Rattle.rules.specs.Refusals.{first}
 use Rattle.rules.specs.Stamps.{start}
 use Rattle.rules.specs.Stored.{stored, blank}
 use Rattle.rules.specs.Tables.{Table, outside, badSize, freshTable, makeFresh, slotNumber}
-use Rattle.rules.specs.declared.Record.{Record}
 use Rattle.tables.specs.Gates.{roomOf, roomCode, freshSlot}
 
 -- the first i slots filled

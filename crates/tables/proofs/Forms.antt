@@ -1,25 +1,23 @@
 -- What the calls by value answer where the record was found lawful before: the refusals that are left. Assumes nothing.
-use mathlib.Core.Path.{_≡_, refl, sym, ap, ap₂, _∙_}
-use mathlib.Core.Bool.{Bool, true, false, not}
+use mathlib.Core.Path.{_≡_, refl, sym, ap, _∙_}
+use mathlib.Core.Bool.{Bool, true, false}
 use mathlib.Core.List.{List, [], _∷_}
-use Prim.Native.Nat.{ℕ, _+_}
+use Prim.Native.Nat.{ℕ}
 use native.Mathlib.Omega.{arith}
 use lib.Dec.{eqb}
 use borrow.Author.Tests.{not-false}
 use Rattle.rules.specs.Limits.{narrow}
 use Rattle.rules.specs.Stamps.{Stamp, update, fork, join, compare}
 use Rattle.rules.specs.Stored.{stored, wordsOf, held, isStored, absent, unlawful, blank}
-use Rattle.rules.specs.Refusals.{number, andThen, first, long, many, overlap, unseen}
+use Rattle.rules.specs.Refusals.{number, andThen, first, long, overlap, unseen}
 use Rattle.rules.specs.Values.{given, branches, told, updated, forked, joined, compared}
 use Rattle.rules.specs.declared.Record.{Record}
 use Rattle.rules.specs.declared.Refusal.{Refusal}
-use Rattle.rules.specs.declared.Refusal.the-variants.{NoSlot, OneSlot, Long, Many, Overlap, Unseen, Unfit}
+use Rattle.rules.specs.declared.Refusal.the-variants.{NoSlot, OneSlot, Long, Overlap, Unseen, Unfit}
 use Rattle.rules.specs.declared.Answer.{Answer}
 use Rattle.rules.specs.declared.Answer.the-variants.{Done, Refused}
 use Rattle.rules.specs.declared.Given.{Given}
 use Rattle.rules.specs.declared.Forked.{Forked}
-use Rattle.rules.specs.declared.Compared.{Compared}
-use Rattle.tables.specs.declared.Two.{Two}
 use Rattle.tables.specs.Rules.{codeOf, answerCode, pairTests, meetTests, twoOf, joinRule}
 use Rattle.tables.specs.Gates.{zeros}
 

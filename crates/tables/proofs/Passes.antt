@@ -1,19 +1,19 @@
 -- What one pass over the table answers: the lowest absent slot, and whether slot a's copy may go. Assumes nothing.
-use mathlib.Core.Path.{_≡_, refl, sym, ap, ap₂, subst, _∙_}
-use mathlib.Core.Bool.{Bool, true, false, cond, not, _||_}
-use mathlib.Core.List.{List, [], _∷_}
+use mathlib.Core.Path.{_≡_, refl, sym, ap, subst, _∙_}
+use mathlib.Core.Bool.{Bool, true, false, cond, _||_}
+use mathlib.Core.List.{[], _∷_}
 use Prim.Native.Nat.{ℕ, zero, suc, _+_, _≤_, _<_}
 use native.Mathlib.Numerals.{add-one}
 use native.Mathlib.Omega.{arith}
 use borrow.Author.Tests.{lt-ltb, eqb-true, eqb-false, eq-eqb, ne-eqb}
-use lib.Dec.{eqb, ltb}
+use lib.Dec.{eqb}
 use lib.ListN.{length}
-use Rattle.rules.specs.Limits.{narrow, records}
-use Rattle.rules.specs.Refusals.{first, number, overlap, unseen}
-use Rattle.rules.specs.Stamps.{Stamp, compare}
+use Rattle.rules.specs.Limits.{narrow}
+use Rattle.rules.specs.Refusals.{first, overlap, unseen}
+use Rattle.rules.specs.Stamps.{compare}
 use Rattle.rules.specs.Stored.{absent, unlawful, isStored, held}
 use Rattle.rules.specs.Tables.{Table, lowest, full, spareFrom, orNext, sparedNumber}
-use Rattle.rules.specs.Values.{told, compared}
+use Rattle.rules.specs.Values.{told}
 use Rattle.rules.specs.declared.Record.{Record}
 use Rattle.rules.specs.declared.Answer.{Answer}
 use Rattle.rules.specs.declared.Answer.the-variants.{Done, Refused}

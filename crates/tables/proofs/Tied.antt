@@ -1,36 +1,30 @@
 -- A gate that asks about numbers, and a rule that keeps the records on a refusal, do what the rules of the table say. Assumes nothing.
 use mathlib.Core.Path.{_≡_, refl, sym, ap, subst₂, _∙_}
-use mathlib.Core.Bool.{Bool, true, false, cond, not, _&&_, _||_}
-use mathlib.Core.List.{List, [], _∷_}
-use Prim.Native.Nat.{ℕ, zero, suc, _+_, _≤_, _<_}
+use mathlib.Core.Bool.{Bool, true, false, cond, _||_}
+use mathlib.Core.List.{[], _∷_}
+use Prim.Native.Nat.{ℕ, _+_, _≤_, _<_}
 use native.Mathlib.Omega.{arith}
 use borrow.Author.Tests.{eqb-true, eqb-false, leb-true, leb-false, ltb-false}
 use lib.Dec.{eqb, leb, ltb}
-use lib.ListN.{length, getD, set}
+use lib.ListN.{length, set}
 use lib.Seq.{set-getD}
 use Rattle.laws.proofs.Below.{below-refl}
 use Rattle.laws.proofs.Tests.{clash}
 use Rattle.rules.specs.Limits.{narrow, records}
 use Rattle.rules.specs.Packed.{comparedNumber}
-use Rattle.rules.specs.Refusals.{first, number, long, many, overlap, unseen}
+use Rattle.rules.specs.Refusals.{first, long}
 use Rattle.rules.specs.Stamps.{Stamp, update, fork, join, compare}
-use Rattle.rules.specs.Stored.{stored, blank, absent, unlawful, isStored, held}
-use Rattle.rules.specs.Tables.{Table, Step, outside, at, badSize, noSlot, lowest, full, stepped, slotNumber, sparedNumber, sparedAfter, spareFrom}
+use Rattle.rules.specs.Stored.{stored, blank, absent, unlawful, held}
+use Rattle.rules.specs.Tables.{Table, outside, at, badSize, noSlot, lowest, full, stepped, slotNumber, sparedNumber}
 use Rattle.rules.specs.Tables.{updateAt, forkAt, joinAt, compareAt, spareAt}
-use Rattle.rules.specs.Values.{told}
 use Rattle.rules.specs.declared.Record.{Record}
 use Rattle.rules.specs.declared.Answer.{Answer}
 use Rattle.rules.specs.declared.Answer.the-variants.{Done, Refused}
-use Rattle.rules.specs.declared.Refusal.{Refusal}
-use Rattle.rules.specs.declared.Refusal.the-variants.{NoSlot, OneSlot, Full, Long, Many, Overlap, Unseen, Unfit}
-use Rattle.rules.specs.declared.Spared.{Spared}
-use Rattle.rules.specs.declared.Verdict.{Verdict}
+use Rattle.rules.specs.declared.Refusal.the-variants.{Long}
 use Rattle.rules.specs.declared.Verdict.the-variants.{Equal}
-use Rattle.tables.specs.declared.One.{One}
-use Rattle.tables.specs.declared.Two.{Two}
 use Rattle.tables.specs.declared.Scan.{Scan}
 use Rattle.tables.specs.Gates.{gateCode, zeros}
-use Rattle.tables.specs.Rules.{codeOf, answerCode, oneOf, twoOf, slotTests, pairTests, meetTests, updateRule, forkRule, joinRule, compareRule}
+use Rattle.tables.specs.Rules.{oneOf, twoOf, slotTests, pairTests, meetTests, updateRule, forkRule, joinRule, compareRule}
 use Rattle.tables.specs.Rules.{forkCode, forkList}
 use Rattle.tables.specs.Scans.{scanOf, seekStart, weighStart}
 use Rattle.tables.proofs.Forms.{lawful-then}

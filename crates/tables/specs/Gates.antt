@@ -1,5 +1,5 @@
 -- What is asked of numbers alone: the size of the table, and slot numbers below it. And what a fresh table has.
-use mathlib.Core.Bool.{Bool, true, false, cond, _||_}
+use mathlib.Core.Bool.{cond, _||_}
 use Prim.Native.Nat.{ℕ}
 use lib.Dec.{eqb, leb, ltb}
 use lib.ListN.{replicate}

@@ -1,11 +1,11 @@
 -- What the rules by value answer and leave in the records that they are given: on a refusal, what they were.
-use mathlib.Core.Bool.{Bool, true, false, cond, not, _&&_, _||_}
+use mathlib.Core.Bool.{Bool, true, false, cond, not, _&&_}
 use mathlib.Core.List.{List, [], _∷_}
 use Prim.Native.Nat.{ℕ, _+_}
 use lib.Dec.{eqb}
 use lib.ListN.{length, set}
 use Rattle.rules.specs.Limits.{narrow}
-use Rattle.rules.specs.Stamps.{Stamp, update, fork, join, compare}
+use Rattle.rules.specs.Stamps.{update, fork, join, compare}
 use Rattle.rules.specs.Stored.{stored, held, unlawful, blank, absent}
 use Rattle.rules.specs.Refusals.{number, first, long, many, overlap, unseen}
 use Rattle.rules.specs.Values.{told}
@@ -17,7 +17,6 @@ use Rattle.rules.specs.declared.Refusal.{Refusal}
 use Rattle.rules.specs.declared.Refusal.the-variants.{NoSlot, OneSlot, Full, Long, Many, Overlap, Unseen, Unfit}
 use Rattle.rules.specs.declared.Answer.{Answer}
 use Rattle.rules.specs.declared.Answer.the-variants.{Done, Refused}
-use Rattle.rules.specs.declared.Verdict.{Verdict}
 use Rattle.tables.specs.Gates.{gateCode}
 use Rattle.tables.specs.declared.One.{One}
 use Rattle.tables.specs.declared.Two.{Two}

@@ -137,7 +137,7 @@ returns-3 c =
     let g = r .before .before .before .before .args in
     tells _ _ _ _ _ _ _
     (zero-short (g .stamp .now) (g .zero .now) (g .one .now) (r .read .result) (r .read .ensures) (f .before .before .enum-told .given .1)
-    (f .fork .result) (f .fork .ensures) (n .before .before .before .enum-told3 .given .1) (n .size .result) (n .size .ensures) (c .if1 .taken)) refl refl refl
+    (f .fork .result) (f .fork .ensures) (n .before .before .before .enum-told3 .given .1) (n .size .result) (n .size .ensures) (omega (arith, c .if1 .taken))) refl refl refl
 
 returns-4 : tie.Need-returns-4
 returns-4 c =
@@ -148,7 +148,7 @@ returns-4 c =
     tells _ _ _ _ _ _ _
     (one-short (g .stamp .now) (g .zero .now) (g .one .now) (r .read .result) (r .read .ensures) (f .before .before .enum-told .given .1)
     (f .fork .result) (f .fork .ensures) (n .before .before .before .enum-told3 .given .1) (n .size .result) (n .size .ensures)
-    (c .before .if1 .left) (c .if2 .taken)) refl refl refl
+    (omega (arith, c .before .if1 .left)) (omega (arith, c .before .if1 .left, c .if2 .taken))) refl refl refl
 
 write-requires : tie.Need-write-requires
 write-requires c κs = search needs
@@ -172,7 +172,7 @@ returns-5 c =
     let g = r .before .before .before .before .args in
     written (g .stamp .now) (g .zero .now) (g .one .now) (r .read .result) (r .read .ensures) (f .before .before .enum-told .given .1)
     (f .fork .result) (f .fork .ensures) (n .before .before .before .enum-told3 .given .1) (n .size .result) (n .size .ensures)
-    (z .before .before .before .if1 .left) (z .before .before .if2 .left) (w .write2 .result) (z .write .last .1 .0) (w .write2 .last .1 .0)
+    (omega (arith, z .before .before .before .if1 .left)) (omega (arith, z .before .before .if2 .left)) (w .write2 .result) (z .write .last .1 .0) (w .write2 .last .1 .0)
     (z .write .ensures .1) (w .write2 .ensures)
 
 pub fork-spec : {M : Type 1} → statement M

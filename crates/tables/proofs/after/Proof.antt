@@ -4,8 +4,6 @@ use Rattle.tables.specs.Scans.{nextOf}
 use borrow.Author.Needs.{needs}
 use Rattle.tables.proofs.after.Statement.{statement}
 use Rattle.tables.proofs.after.Tie as tie
-use Rattle.tables.proofs.after.Reads as reads
-use Rattle.tables.proofs.after.Lts as lts
 
 add-result : tie.Need-add-result
 add-result c = search needs

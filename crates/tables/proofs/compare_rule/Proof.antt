@@ -1,7 +1,7 @@
 -- `tables::compare_rule` meets its contract: the refusals in their order, and else the answer of `stamps::compare`. Assumes nothing.
 use borrow.Author.Tests.{eq-eqb, ne-eqb, not-true, not-false}
 use mathlib.Core.Path.{_≡_, sym, ap, _∙_}
-use mathlib.Core.Bool.{true, false}
+use mathlib.Core.Bool.{true}
 use Rattle.rules.specs.Limits.{narrow}
 use Rattle.rules.specs.Packed.{comparedNumber}
 use Rattle.rules.specs.Refusals.{first}
@@ -11,12 +11,6 @@ use Rattle.tables.proofs.Forms.{compare-form}
 use borrow.Author.Needs.{needs}
 use Rattle.tables.proofs.compare_rule.Statement.{statement}
 use Rattle.tables.proofs.compare_rule.Tie as tie
-use Rattle.tables.proofs.compare_rule.Reads as reads
-use Rattle.tables.proofs.compare_rule.Lts as lts
-use Rattle.stamps.proofs.compare.Reads as compare-reads
-use Rattle.stamps.proofs.is_lawful.Reads as is-lawful-reads
-use Rattle.answers.proofs.compared_code.Reads as compared-code-reads
-use Rattle.tables.proofs.is_absent.Reads as is-absent-reads
 
 is-absent-requires : tie.Need-is-absent-requires
 is-absent-requires c κs = search needs

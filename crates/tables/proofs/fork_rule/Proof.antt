@@ -14,12 +14,6 @@ use Rattle.tables.proofs.Forms.{fork-form, two-branches}
 use borrow.Author.Needs.{needs}
 use Rattle.tables.proofs.fork_rule.Statement.{statement}
 use Rattle.tables.proofs.fork_rule.Tie as tie
-use Rattle.tables.proofs.fork_rule.Reads as reads
-use Rattle.tables.proofs.fork_rule.Lts as lts
-use Rattle.stamps.proofs.fork.Reads as fork-reads
-use Rattle.stamps.proofs.is_lawful.Reads as is-lawful-reads
-use Rattle.tables.proofs.is_absent.Reads as is-absent-reads
-use Rattle.tables.proofs.settle_two.Reads as settle-two-reads
 
 is-absent-requires : tie.Need-is-absent-requires
 is-absent-requires c κs = search needs

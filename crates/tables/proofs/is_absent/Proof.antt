@@ -1,11 +1,9 @@
 -- `tables::is_absent` meets its contract: both names are all zeros. Assumes nothing.
 use borrow.Author.Needs.{needs}
-use mathlib.Core.Path.{_≡_, refl, sym, _∙_}
+use mathlib.Core.Path.{sym, _∙_}
 use Rattle.rules.specs.Stored.{absent, blank, stored, sameRecord}
 use Rattle.tables.proofs.is_absent.Statement.{statement}
 use Rattle.tables.proofs.is_absent.Tie as tie
-use Rattle.tables.proofs.is_absent.Reads as reads
-use Rattle.tables.proofs.is_absent.Lts as lts
 
 is-zeros-requires : tie.Need-is-zeros-requires
 is-zeros-requires c κs = search needs

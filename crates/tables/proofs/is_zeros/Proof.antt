@@ -1,18 +1,15 @@
 -- `tables::is_zeros` meets its contract: word by word against 16 zeros. Assumes nothing.
 use borrow.Author.Needs.{needs}
 use borrow.Author.Tests.{eq-eqb, ne-eqb}
-use mathlib.Core.Path.{_≡_, refl, sym, ap, _∙_}
-use mathlib.Core.Bool.{true, false, _&&_}
+use mathlib.Core.Path.{_≡_, refl, sym, _∙_}
 use mathlib.Core.List.{List}
 use native.Mathlib.Omega.{arith}
-use Prim.Native.Nat.{ℕ, _-_, _+_, _≤_, _<_}
-use lib.ListN.{length, getD, drop, replicate, length-replicate, getD-replicate}
+use Prim.Native.Nat.{ℕ, _-_, _≤_}
+use lib.ListN.{length, drop, replicate}
 use Rattle.rules.specs.Stored.{sameWords, sameNumbers, wordsOf}
 use Rattle.tables.proofs.Zeros.{field-length, zero-more, zero-stop, zero-end}
 use Rattle.tables.proofs.is_zeros.Statement.{statement}
 use Rattle.tables.proofs.is_zeros.Tie as tie
-use Rattle.tables.proofs.is_zeros.Reads as reads
-use Rattle.tables.proofs.is_zeros.Lts as lts
 
 abbrev zs : List ℕ
 zs = replicate 16 0

@@ -1,17 +1,11 @@
 -- `tables::join_rule` meets its contract: what `pair_code` refuses, and else the answer of `joins::join`. Assumes nothing.
-use mathlib.Core.Path.{_≡_, sym, ap, _∙_}
+use mathlib.Core.Path.{ap, _∙_}
 use Rattle.rules.specs.declared.Record.{Record}
 use Rattle.tables.specs.Rules.{twoOf}
 use Rattle.tables.proofs.Forms.{none-is, join-refused, join-asked}
 use borrow.Author.Needs.{needs}
 use Rattle.tables.proofs.join_rule.Statement.{statement}
 use Rattle.tables.proofs.join_rule.Tie as tie
-use Rattle.tables.proofs.join_rule.Reads as reads
-use Rattle.tables.proofs.join_rule.Lts as lts
-use Rattle.joins.proofs.join.Reads as join-reads
-use Rattle.tables.proofs.empties.Reads as empties-reads
-use Rattle.tables.proofs.pair_code.Reads as pair-code-reads
-use Rattle.tables.proofs.settle_two.Reads as settle-two-reads
 
 pair-code-requires : tie.Need-pair-code-requires
 pair-code-requires c κs = search needs

@@ -4,10 +4,6 @@ use Rattle.tables.specs.Scans.{lookOf}
 use borrow.Author.Needs.{needs}
 use Rattle.tables.proofs.look.Statement.{statement}
 use Rattle.tables.proofs.look.Tie as tie
-use Rattle.tables.proofs.look.Reads as reads
-use Rattle.tables.proofs.look.Lts as lts
-use Rattle.tables.proofs.seek.Reads as seek-reads
-use Rattle.tables.proofs.weigh.Reads as weigh-reads
 
 returns : tie.Need-returns
 unfolding lookOf

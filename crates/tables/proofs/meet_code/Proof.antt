@@ -1,16 +1,10 @@
 -- `tables::meet_code` meets its contract. Assumes nothing.
-use mathlib.Core.Path.{_≡_, sym, ap, _∙_}
-use mathlib.Core.Bool.{not}
+use mathlib.Core.Path.{sym, ap, _∙_}
 use Rattle.rules.specs.Stored.{unlawful}
 use Rattle.tables.specs.Scans.{meetCode, spareCode}
 use borrow.Author.Needs.{needs}
 use Rattle.tables.proofs.meet_code.Statement.{statement}
 use Rattle.tables.proofs.meet_code.Tie as tie
-use Rattle.tables.proofs.meet_code.Reads as reads
-use Rattle.tables.proofs.meet_code.Lts as lts
-use Rattle.stamps.proofs.compare.Reads as compare-reads
-use Rattle.stamps.proofs.is_lawful.Reads as is-lawful-reads
-use Rattle.tables.proofs.spare_code.Reads as spare-code-reads
 
 is-lawful-requires : tie.Need-is-lawful-requires
 is-lawful-requires c κs = search needs

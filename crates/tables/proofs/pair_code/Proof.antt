@@ -1,15 +1,11 @@
 -- `tables::pair_code` meets its contract: the tests in their order. Assumes nothing.
 use borrow.Author.Tests.{eq-eqb, ne-eqb, not-true, not-false}
-use mathlib.Core.Path.{_≡_, sym, _∙_}
+use mathlib.Core.Path.{sym, _∙_}
 use Rattle.rules.specs.Refusals.{first}
 use Rattle.rules.specs.Stored.{unlawful}
 use borrow.Author.Needs.{needs}
 use Rattle.tables.proofs.pair_code.Statement.{statement}
 use Rattle.tables.proofs.pair_code.Tie as tie
-use Rattle.tables.proofs.pair_code.Reads as reads
-use Rattle.tables.proofs.pair_code.Lts as lts
-use Rattle.stamps.proofs.is_lawful.Reads as is-lawful-reads
-use Rattle.tables.proofs.is_absent.Reads as is-absent-reads
 
 is-absent-requires : tie.Need-is-absent-requires
 is-absent-requires c κs = search needs

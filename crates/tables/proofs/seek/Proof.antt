@@ -1,14 +1,10 @@
 -- `tables::seek` meets its contract. Assumes nothing.
-use mathlib.Core.Path.{_≡_, sym, ap, _∙_}
+use mathlib.Core.Path.{sym, ap, _∙_}
 use Prim.Native.Nat.{ℕ}
 use Rattle.tables.specs.Scans.{seekOf}
 use borrow.Author.Needs.{needs}
 use Rattle.tables.proofs.seek.Statement.{statement}
 use Rattle.tables.proofs.seek.Tie as tie
-use Rattle.tables.proofs.seek.Reads as reads
-use Rattle.tables.proofs.seek.Lts as lts
-use Rattle.tables.proofs.after.Reads as after-reads
-use Rattle.tables.proofs.is_absent.Reads as is-absent-reads
 
 after-requires : tie.Need-after-requires
 after-requires c κs = search needs

@@ -1,13 +1,10 @@
 -- `tables::seek_start` meets its contract. Assumes nothing.
-use mathlib.Core.Path.{_≡_, ap}
+use mathlib.Core.Path.{ap}
 use Rattle.rules.specs.declared.Record.{Record}
 use Rattle.tables.specs.Scans.{seekStart}
 use borrow.Author.Needs.{needs}
 use Rattle.tables.proofs.seek_start.Statement.{statement}
 use Rattle.tables.proofs.seek_start.Tie as tie
-use Rattle.tables.proofs.seek_start.Reads as reads
-use Rattle.tables.proofs.seek_start.Lts as lts
-use Rattle.tables.proofs.empties.Reads as empties-reads
 
 empties-requires : tie.Need-empties-requires
 empties-requires c κs = search needs

@@ -1,14 +1,11 @@
 -- `tables::settle_two` meets its contract: one way for each answer. Assumes nothing.
-use mathlib.Core.Path.{_≡_, sym, ap, _∙_}
+use mathlib.Core.Path.{sym, ap, _∙_}
 use Prim.Native.Nat.{ℕ}
 use Rattle.rules.specs.declared.Answer.{Answer}
 use Rattle.tables.specs.Rules.{twoOf}
 use borrow.Author.Needs.{needs}
 use Rattle.tables.proofs.settle_two.Statement.{statement}
 use Rattle.tables.proofs.settle_two.Tie as tie
-use Rattle.tables.proofs.settle_two.Reads as reads
-use Rattle.tables.proofs.settle_two.Lts as lts
-use Rattle.answers.proofs.refusal_code.Reads as refusal-code-reads
 
 -- src/lib.rt:229:37
 enum-told : tie.Need-enum-told

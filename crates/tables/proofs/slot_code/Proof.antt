@@ -1,14 +1,10 @@
 -- `tables::slot_code` meets its contract. Assumes nothing.
-use mathlib.Core.Path.{_≡_, sym, _∙_}
+use mathlib.Core.Path.{sym, _∙_}
 use Rattle.rules.specs.Refusals.{first}
 use Rattle.rules.specs.Stored.{unlawful}
 use borrow.Author.Needs.{needs}
 use Rattle.tables.proofs.slot_code.Statement.{statement}
 use Rattle.tables.proofs.slot_code.Tie as tie
-use Rattle.tables.proofs.slot_code.Reads as reads
-use Rattle.tables.proofs.slot_code.Lts as lts
-use Rattle.stamps.proofs.is_lawful.Reads as is-lawful-reads
-use Rattle.tables.proofs.is_absent.Reads as is-absent-reads
 
 is-absent-requires : tie.Need-is-absent-requires
 is-absent-requires c κs = search needs

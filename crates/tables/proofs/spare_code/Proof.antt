@@ -1,13 +1,9 @@
 -- `tables::spare_code` meets its contract: one way for each answer. Assumes nothing.
-use mathlib.Core.Path.{_≡_, sym, ap, _∙_}
+use mathlib.Core.Path.{sym, ap, _∙_}
 use Rattle.tables.specs.Scans.{spareCode}
 use borrow.Author.Needs.{needs}
 use Rattle.tables.proofs.spare_code.Statement.{statement}
 use Rattle.tables.proofs.spare_code.Tie as tie
-use Rattle.tables.proofs.spare_code.Reads as reads
-use Rattle.tables.proofs.spare_code.Lts as lts
-use Rattle.tables.proofs.is_obsolete.Reads as is-obsolete-reads
-use Rattle.answers.proofs.refusal_code.Reads as refusal-code-reads
 
 -- src/lib.rt:197:22
 enum-known-c : tie.Need-enum-known-c

@@ -1,12 +1,10 @@
 -- `tables::update_rule` meets its contract: the refusals in their order, and else the stamp of `stamps::update`. Assumes nothing.
 use mathlib.Core.Path.{_≡_, sym, ap, _∙_}
 use mathlib.Core.Bool.{true}
-use Prim.Native.Nat.{ℕ}
 use Rattle.rules.specs.Limits.{narrow}
 use Rattle.rules.specs.Refusals.{first}
 use Rattle.rules.specs.Stamps.{update}
-use Rattle.rules.specs.Stored.{unlawful, isStored, stored, held}
-use Rattle.rules.specs.Values.{updated}
+use Rattle.rules.specs.Stored.{unlawful, isStored}
 use Rattle.rules.specs.declared.Given.{Given}
 use Rattle.rules.specs.declared.Record.{Record}
 use Rattle.tables.specs.Rules.{updateRule}
@@ -14,11 +12,6 @@ use Rattle.tables.proofs.Forms.{update-form}
 use borrow.Author.Needs.{needs}
 use Rattle.tables.proofs.update_rule.Statement.{statement}
 use Rattle.tables.proofs.update_rule.Tie as tie
-use Rattle.tables.proofs.update_rule.Reads as reads
-use Rattle.tables.proofs.update_rule.Lts as lts
-use Rattle.stamps.proofs.is_lawful.Reads as is-lawful-reads
-use Rattle.stamps.proofs.update.Reads as update-reads
-use Rattle.tables.proofs.is_absent.Reads as is-absent-reads
 
 is-absent-requires : tie.Need-is-absent-requires
 is-absent-requires c κs = search needs

@@ -1,16 +1,11 @@
 -- `tables::weigh` meets its contract. Assumes nothing.
-use mathlib.Core.Path.{_≡_, sym, ap, ap₂, _∙_}
+use mathlib.Core.Path.{sym, ap, ap₂, _∙_}
 use Prim.Native.Nat.{ℕ}
 use borrow.Author.Tests.{eq-eqb, ne-eqb}
 use Rattle.tables.specs.Scans.{weighOf}
 use borrow.Author.Needs.{needs}
 use Rattle.tables.proofs.weigh.Statement.{statement}
 use Rattle.tables.proofs.weigh.Tie as tie
-use Rattle.tables.proofs.weigh.Reads as reads
-use Rattle.tables.proofs.weigh.Lts as lts
-use Rattle.tables.proofs.after.Reads as after-reads
-use Rattle.tables.proofs.is_absent.Reads as is-absent-reads
-use Rattle.tables.proofs.meet_code.Reads as meet-code-reads
 
 after-requires : tie.Need-after-requires
 after-requires c κs = search needs

@@ -1,13 +1,10 @@
 -- `tables::weigh_start` meets its contract. Assumes nothing.
-use mathlib.Core.Path.{_≡_, ap}
+use mathlib.Core.Path.{ap}
 use Prim.Native.Nat.{ℕ}
 use Rattle.tables.specs.Scans.{weighStart}
 use borrow.Author.Needs.{needs}
 use Rattle.tables.proofs.weigh_start.Statement.{statement}
 use Rattle.tables.proofs.weigh_start.Tie as tie
-use Rattle.tables.proofs.weigh_start.Reads as reads
-use Rattle.tables.proofs.weigh_start.Lts as lts
-use Rattle.tables.proofs.slot_code.Reads as slot-code-reads
 
 slot-code-requires : tie.Need-slot-code-requires
 slot-code-requires c κs = search needs
