@@ -247,11 +247,66 @@ static void largest(void) {
     if (ebbmuslin_update(x.b, MOST, p.b, MOST - 1) != 1010 || memcmp(&p, &q, sizeof p)) differ("117 into 116", &x, &x, 0, 0);
 }
 
+static void expect(const char *what, uint64_t got, uint64_t want) {
+    if (got == want) return;
+    printf("%s: %" PRIu64 ", wanted %" PRIu64 "\n", what, got, want);
+    exit(1);
+}
+
+/* A null pointer with length 0 is an empty slice, in every place. */
+static void nulls(void) {
+    uint8_t x[3] = {0}, out[MOST];
+    expect("update of nothing", ebbmuslin_update(NULL, 0, out, sizeof out), 1001);
+    expect("update into nothing", ebbmuslin_update(x, 3, NULL, 0), 1010);
+    expect("fork of nothing", ebbmuslin_fork(NULL, 0, out, sizeof out, NULL, 0), 1001);
+    expect("fork into nothing", ebbmuslin_fork(x, 3, NULL, 0, out, sizeof out), 1010);
+    expect("fork into nothing", ebbmuslin_fork(x, 3, out, sizeof out, NULL, 0), 1010);
+    expect("join of nothing", ebbmuslin_join(NULL, 0, x, 3, out, sizeof out), 1001);
+    expect("join with nothing", ebbmuslin_join(x, 3, NULL, 0, out, sizeof out), 1001);
+    expect("join into nothing", ebbmuslin_join((const uint8_t *)"\0\0\x40", 3, (const uint8_t *)"\0\0\x60", 3, NULL, 0), 1010);
+    expect("compare of nothing", ebbmuslin_compare(NULL, 0, x, 3), 1001);
+    expect("compare with nothing", ebbmuslin_compare(x, 3, NULL, 0), 1001);
+}
+
+/* [e|i] with count id strings: first, first + step, ..., of deep digits. */
+static bytes with_ids(unsigned count, unsigned deep, unsigned first, unsigned step) {
+    bytes x;
+    size_t at = 0;
+    memset(&x, 0, sizeof x);
+    put_bits(&x, &at, 0, 9);
+    put_bits(&x, &at, count - 1, 4);
+    for (unsigned k = 0; k < count; k++) {
+        put_bits(&x, &at, deep, 5);
+        put_bits(&x, &at, first + k * step, deep);
+    }
+    x.len = (at + 7) / 8;
+    return x;
+}
+
+/* An id string of 23 digits forks, of 24 is refused; a reduced id of 16 strings is accepted, of 17 refused, and 16 of 17
+ * before reduction are accepted. */
+static void limits(void) {
+    uint8_t p[MOST], q[MOST];
+    bytes x = with_ids(1, 23, 5, 0), y = with_ids(1, 24, 5, 0);
+    expect("fork of 23 digits", ebbmuslin_fork(x.b, x.len, p, sizeof p, q, sizeof q), (13 + 5 + 4 + 5 + 24 - 9 + 7) / 8);
+    expect("fork of 24 digits", ebbmuslin_fork(y.b, y.len, p, sizeof p, q, sizeof q), 1006);
+    x = with_ids(15, 6, 0, 4);
+    y = with_ids(1, 6, 62, 0);
+    expect("16 strings", ebbmuslin_join(x.b, x.len, y.b, y.len, p, sizeof p), (13 + 16 * 11 + 7) / 8);
+    x = with_ids(16, 6, 0, 4);
+    y = with_ids(1, 6, 62, 0);
+    expect("17 strings", ebbmuslin_join(x.b, x.len, y.b, y.len, p, sizeof p), 1007);
+    y = with_ids(1, 6, 61, 0);
+    expect("17 strings that become 16", ebbmuslin_join(x.b, x.len, y.b, y.len, p, sizeof p), (13 + 15 * 11 + 10 + 7) / 8);
+}
+
 int main(int argc, char **argv) {
     uint64_t rounds = argc > 1 ? strtoull(argv[1], NULL, 10) : 100000;
     state = argc > 2 ? strtoull(argv[2], NULL, 10) : 1;
     start_pool();
     largest();
+    nulls();
+    limits();
     for (uint64_t k = 0; k < rounds; k++) {
         if (k % 64 == 0) start_pool();
         for (int j = 0; j < 3; j++) evolve();

@@ -72,7 +72,7 @@ unfolding commandsIn numbers
 read-back [] l = refl
 read-back (c ∷ cs) l = ap (λ (ds : List Command). c ∷ ds) (read-back cs l)
 
--- what stands in a buffer that commands were gathered in are those commands
+-- commands stored at the front of a buffer are read back
 pub commands-back : (cs : List Command) (buffer : List ℕ) → commandsIn (length cs) (over (numbers cs) buffer) ≡ cs
 commands-back cs buffer = read-back cs (drop (length (numbers cs)) buffer)
 
