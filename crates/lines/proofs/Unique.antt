@@ -19,10 +19,10 @@ pub parse-one-answer : OneAnswer parse.ended (λ M 𝓤. parse.clauses 𝓤) (λ
 parse-one-answer M 𝓤 H A mem run = (refl, λ κs a g h r s v w. both-say 𝓤 (λ e f. (agree e f, refl)))
 
 pub gather-one-answer : OneAnswer gather.ended (λ M 𝓤. gather.clauses 𝓤) (λ M 𝓤. gather.spec 𝓤)
-gather-one-answer M 𝓤 H A mem run = (refl, λ κs a g h r s v w. both-say 𝓤 (λ e f. (agree (e .0) (f .0), λ i. (tt, (tt, ((agree (e .1) (f .1)) i, tt))))))
+gather-one-answer M 𝓤 H A mem run = (refl, λ κs a g h r s v w. both-say 𝓤 (λ e f. (agree (e .0) (f .0), λ i. (tt, (tt, (agree (e .1) (f .1) i, tt))))))
 
 pub finish-one-answer : OneAnswer finish.ended (λ M 𝓤. finish.clauses 𝓤) (λ M 𝓤. finish.spec 𝓤)
 finish-one-answer M 𝓤 H A mem run = (refl, λ κs a g h r s v w. both-say 𝓤 (λ e f. (agree e f, refl)))
 
 pub print-one-answer : OneAnswer print.ended (λ M 𝓤. print.clauses 𝓤) (λ M 𝓤. print.spec 𝓤)
-print-one-answer M 𝓤 H A mem run = (refl, λ κs a g h r s v w. both-say 𝓤 (λ e f. (agree (e .0) (f .0), λ i. (tt, (tt, ((agree (e .1) (f .1)) i, tt))))))
+print-one-answer M 𝓤 H A mem run = (refl, λ κs a g h r s v w. both-say 𝓤 (λ e f. (agree (e .0) (f .0), λ i. (tt, (tt, (agree (e .1) (f .1) i, tt))))))

@@ -10,16 +10,16 @@ use Rattle.tables.proofs.compare
 use Rattle.tables.proofs.spare
 
 pub fresh-one-answer : OneAnswer fresh.ended (λ M 𝓤. fresh.clauses 𝓤) (λ M 𝓤. fresh.spec 𝓤)
-fresh-one-answer M 𝓤 H A mem run = (refl, λ κs a g h r s v w. both-say 𝓤 (λ e f. (agree (e .0) (f .0), λ i. ((agree (e .1) (f .1)) i, tt))))
+fresh-one-answer M 𝓤 H A mem run = (refl, λ κs a g h r s v w. both-say 𝓤 (λ e f. (agree (e .0) (f .0), λ i. (agree (e .1) (f .1) i, tt))))
 
 pub update-one-answer : OneAnswer update.ended (λ M 𝓤. update.clauses 𝓤) (λ M 𝓤. update.spec 𝓤)
-update-one-answer M 𝓤 H A mem run = (refl, λ κs a g h r s v w. both-say 𝓤 (λ e f. (agree (e .0) (f .0), λ i. ((agree (e .1) (f .1)) i, (tt, tt)))))
+update-one-answer M 𝓤 H A mem run = (refl, λ κs a g h r s v w. both-say 𝓤 (λ e f. (agree (e .0) (f .0), λ i. (agree (e .1) (f .1) i, (tt, tt)))))
 
 pub fork-one-answer : OneAnswer fork.ended (λ M 𝓤. fork.clauses 𝓤) (λ M 𝓤. fork.spec 𝓤)
-fork-one-answer M 𝓤 H A mem run = (refl, λ κs a g h r s v w. both-say 𝓤 (λ e f. (agree (e .0) (f .0), λ i. ((agree (e .1) (f .1)) i, (tt, tt)))))
+fork-one-answer M 𝓤 H A mem run = (refl, λ κs a g h r s v w. both-say 𝓤 (λ e f. (agree (e .0) (f .0), λ i. (agree (e .1) (f .1) i, (tt, tt)))))
 
 pub join-one-answer : OneAnswer join.ended (λ M 𝓤. join.clauses 𝓤) (λ M 𝓤. join.spec 𝓤)
-join-one-answer M 𝓤 H A mem run = (refl, λ κs a g h r s v w. both-say 𝓤 (λ e f. (agree (e .0) (f .0), λ i. ((agree (e .1) (f .1)) i, (tt, (tt, tt))))))
+join-one-answer M 𝓤 H A mem run = (refl, λ κs a g h r s v w. both-say 𝓤 (λ e f. (agree (e .0) (f .0), λ i. (agree (e .1) (f .1) i, (tt, (tt, tt))))))
 
 pub compare-one-answer : OneAnswer compare.ended (λ M 𝓤. compare.clauses 𝓤) (λ M 𝓤. compare.spec 𝓤)
 compare-one-answer M 𝓤 H A mem run = (refl, λ κs a g h r s v w. both-say 𝓤 (λ e f. (agree e f, refl)))
