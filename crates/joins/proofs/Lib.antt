@@ -8,3 +8,4 @@ pub mod Settling
 pub mod Finding
 pub mod Reducing
 pub mod Merging
+pub mod Unique

@@ -1,5 +1,6 @@
 -- The laws of the rules, one file a notion, each above those that cite it.
 pub mod Tests
+pub mod Contracts
 pub mod Prefix
 pub mod Rising
 pub mod Bits

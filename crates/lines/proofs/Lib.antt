@@ -7,3 +7,4 @@ pub mod Stores
 pub mod Texts
 pub mod Turns
 pub mod Runs
+pub mod Unique

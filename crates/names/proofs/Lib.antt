@@ -1,3 +1,4 @@
 -- What the proofs share.
 pub mod Laws
 pub mod Shape
+pub mod Unique

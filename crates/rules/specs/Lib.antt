@@ -12,4 +12,5 @@ pub mod Tables
 pub mod Histories
 pub mod Traces
 pub mod Promises
+pub mod Contracts
 pub mod Examples

@@ -4,3 +4,4 @@ pub mod Forms
 pub mod Passes
 pub mod Tied
 pub mod Asks
+pub mod Unique
