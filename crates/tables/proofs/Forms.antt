@@ -1,19 +1,18 @@
 -- What the calls by value answer where the record was found lawful before: the refusals that are left. Assumes nothing.
 use mathlib.Core.Path.{_≡_, refl, sym, ap, _∙_}
-use mathlib.Core.Bool.{Bool, true, false}
-use mathlib.Core.List.{List, [], _∷_}
+use mathlib.Core.Bool.{Bool, true, false, cond}
+use mathlib.Core.List.{List, [], _∷_, _++_}
 use Prim.Native.Nat.{ℕ}
 use native.Mathlib.Omega.{arith}
-use lib.Dec.{eqb}
 use borrow.Author.Tests.{not-false}
 use Rattle.rules.specs.Limits.{narrow}
 use Rattle.rules.specs.Stamps.{Stamp, update, fork, join, compare}
-use Rattle.rules.specs.Stored.{stored, wordsOf, held, isStored, absent, unlawful, blank}
-use Rattle.rules.specs.Refusals.{number, andThen, first, long, overlap, unseen}
+use Rattle.rules.specs.Stored.{stored, wordsOf, held, isStored, unlawful, blank}
+use Rattle.rules.specs.Refusals.{andThen, first, long, overlap, unseen}
 use Rattle.rules.specs.Values.{given, branches, told, updated, forked, joined, compared}
 use Rattle.rules.specs.declared.Record.{Record}
 use Rattle.rules.specs.declared.Refusal.{Refusal}
-use Rattle.rules.specs.declared.Refusal.the-variants.{NoSlot, OneSlot, Long, Overlap, Unseen, Unfit}
+use Rattle.rules.specs.declared.Refusal.the-variants.{Long, Overlap, Unseen}
 use Rattle.rules.specs.declared.Answer.{Answer}
 use Rattle.rules.specs.declared.Answer.the-variants.{Done, Refused}
 use Rattle.rules.specs.declared.Given.{Given}
@@ -70,26 +69,25 @@ none-is = refl
 
 -- ---- what is asked before a join, and then of the stamps
 
-abbrev five : Bool → Bool → Bool → Bool → Bool → List (Bool × Refusal) → Answer
-five p q r x y more = first ((p, NoSlot) ∷ (q, NoSlot) ∷ (r, OneSlot) ∷ (x, Unfit) ∷ (y, Unfit) ∷ more)
-
-five-then : (p q r x y : Bool) (more : List (Bool × Refusal)) → five p q r x y more ≡ andThen (five p q r x y []) (first more)
+-- tests, and then more tests
+first-then : (ts us : List (Bool × Refusal)) → first (ts ++ us) ≡ andThen (first ts) (first us)
 unfolding first
-five-then true q r x y more = refl
-five-then false true r x y more = refl
-five-then false false true x y more = refl
-five-then false false false true y more = refl
-five-then false false false false true more = refl
-five-then false false false false false more = refl
+first-then [] us = refl
+first-then (t ∷ ts) us = by (t .0) (first-then ts us)
+  where
+    by : (b : Bool) → first (ts ++ us) ≡ andThen (first ts) (first us)
+        → cond b (Refused (t .1)) (first (ts ++ us)) ≡ andThen (cond b (Refused (t .1)) (first ts)) (first us)
+    by true h = refl
+    by false h = h
 
-five-done : (p q r x y : Bool) → five p q r x y [] ≡ Done → (x ≡ false) × (y ≡ false)
+-- where none holds, the first does not, nor one behind it
+first-done : (t : Bool × Refusal) (ts : List (Bool × Refusal)) → first (t ∷ ts) ≡ Done → (t .0 ≡ false) × (first ts ≡ Done)
 unfolding first
-five-done true q r x y e = absurd (refused-done e)
-five-done false true r x y e = absurd (refused-done e)
-five-done false false true x y e = absurd (refused-done e)
-five-done false false false true y e = absurd (refused-done e)
-five-done false false false false true e = absurd (refused-done e)
-five-done false false false false false e = (refl, refl)
+first-done t ts = by (t .0)
+  where
+    by : (b : Bool) → cond b (Refused (t .1)) (first ts) ≡ Done → (b ≡ false) × (first ts ≡ Done)
+    by true e = absurd (refused-done e)
+    by false e = (refl, e)
 
 module _ (a b : ℕ) (s u : Record) where
   abbrev asked : Answer
@@ -99,7 +97,7 @@ module _ (a b : ℕ) (s u : Record) where
   unfolding joinRule
   join-then =
       ap (λ (r : Answer). twoOf r a s u (stored narrow (join (held s) (held u))) (blank narrow))
-      (five-then (absent narrow s) (absent narrow u) (eqb a b) (unlawful narrow s) (unlawful narrow u) (meetTests s u))
+      (first-then (pairTests a b s u []) (meetTests s u))
 
   pub join-refused : (n : ℕ) → n ≡ answerCode asked 0 → (n ≡ 0 → ⊥) → record { code = n; first = s; second = u } ≡ joinRule a b s u
   join-refused n e h = by asked e ∙ sym join-then
@@ -113,8 +111,9 @@ module _ (a b : ℕ) (s u : Record) where
       → twoOf (g .answer) a s u (g .stamp) (blank narrow) ≡ joinRule a b s u
   join-asked n e h g k =
       let done : asked ≡ Done = answer-done asked (sym e ∙ h) in
-      let laws = five-done (absent narrow s) (absent narrow u) (eqb a b) (unlawful narrow s) (unlawful narrow u) done in
-      ap (λ (g : Given). twoOf (g .answer) a s u (g .stamp) (blank narrow)) (k ∙ join-form s u (lawful-then s (laws .0)) (lawful-then u (laws .1)))
+      let fourth = first-done _ _ (first-done _ _ (first-done _ _ (first-done _ _ done .1) .1) .1) in
+      let fifth = first-done _ _ (fourth .1) in
+      ap (λ (g : Given). twoOf (g .answer) a s u (g .stamp) (blank narrow)) (k ∙ join-form s u (lawful-then s (fourth .0)) (lawful-then u (fifth .0)))
       ∙ two-given (first (meetTests s u)) a s u (join (held s) (held u)) (blank narrow)
       ∙ ap (λ (r : Answer). twoOf (andThen r (first (meetTests s u))) a s u (stored narrow (join (held s) (held u))) (blank narrow)) (sym done)
       ∙ sym join-then

@@ -18,7 +18,7 @@ refusal-code-requires : tie.Need-refusal-code-requires
 refusal-code-requires c κs = search needs
 
 returns : tie.Need-returns
-returns c = search needs
+returns c = c .verdict-code .ensures ∙ sym (ap comparedNumber (c .before .before .c .given .1))
 
 returns-2 : tie.Need-returns-2
 returns-2 c = c .refusal-code .ensures ∙ sym (ap comparedNumber (c .before .before .c2 .given .1))

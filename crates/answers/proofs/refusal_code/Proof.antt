@@ -1,6 +1,6 @@
 -- `answers::refusal_code` meets its contract: no refusal has a number above 13. Assumes nothing.
 use borrow.Author.Needs.{needs}
-use mathlib.Core.Path.{_≡_, refl, sym, ap, _∙_}
+use mathlib.Core.Path.{ap}
 use native.Mathlib.Omega.{arith}
 use Prim.Native.Nat.{ℕ, _≤_, _+_}
 use lib.Dec.{lit≤}
@@ -32,7 +32,7 @@ add-result : tie.Need-add-result
 add-result c = omega (arith, number-small (c .before .args .r), c .refusal-number .ensures)
 
 returns : tie.Need-returns
-returns c = search needs
+returns c = ap (λ (n : ℕ). 1000 + n) (c .refusal-number .ensures)
 
 pub refusal-code-spec : {M : Type 1} → statement M
 refusal-code-spec = tie.close (tie.spec refusal-number-requires add-result returns)

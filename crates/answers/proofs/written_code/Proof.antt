@@ -15,7 +15,7 @@ refusal-code-requires : tie.Need-refusal-code-requires
 refusal-code-requires c κs = search needs
 
 returns : tie.Need-returns
-returns c = search needs
+returns c = sym (ap writtenNumber (c .before .w .given .1))
 
 returns-2 : tie.Need-returns-2
 returns-2 c = c .refusal-code .ensures ∙ sym (ap writtenNumber (c .before .before .w2 .given .1))

@@ -85,7 +85,8 @@ returns-3 c =
     let q = d .before .before in
     let r = q .before .before .before in
     let g = r .before .before .before .args in
-    c .compare .ensures
+    let h : c .compare .result ≡ compared narrow (r .read .result .stamp) (q .read2 .result .stamp) = c .compare .ensures in
+    h
     ∙ both-read (g .first .now) (g .second .now) (r .read .result) (r .read .ensures) (q .before .enum-told .given .1) (q .read2 .result) (q .read2 .ensures) (d .enum-told3 .given .1)
 
 pub compare-spec : {M : Type 1} → statement M

@@ -56,8 +56,8 @@ loop-again c =
     let i = p .before .before in
     let l = i .before .before .before in
     let g = l .before .before .before .before .args in (
-      search needs,
-      search needs,
+      omega arith,
+      omega arith,
       search needs,
       gathers-line (l .loop .held) (c .begin .result) (g .piece .now) (l .loop .commands) (s .store .last .0) (l .loop .count) (l .loop .i) (p .parse .result)
           (omega arith) (i .if2 .taken) (p .parse .ensures) (s .store .ensures) (c .begin .ensures)

@@ -6,6 +6,8 @@ use mathlib.Core.List.{List}
 use Prim.Native.Nat.{ℕ, _+_, _*_, _-_, _≤_}
 use native.Mathlib.Omega.{arith}
 use lib.ListN.{length, getD}
+use Rattle.lines.specs.Answers.{answerText}
+use Rattle.lines.specs.Inner.{PutAt}
 use Rattle.lines.proofs.Texts.{answer-room}
 use Rattle.lines.proofs.Turns.{writes, writes-then, writes-all, writes-none, writes-short, writes-end, answersFrom, answers-more}
 use Rattle.lines.proofs.print.Statement.{statement}
@@ -61,12 +63,14 @@ loop-again c =
     let l = p .before .before .before .before .before in
     let g = l .before .before .before .before .before .args in
     let k = l .loop .k in
-    let room = answer-room (getD (g .commands .now) (3 * k) 0) (getD (g .commands .now) (3 * k + 1) 0) in (
+    let op = getD (g .commands .now) (3 * k) 0 in
+    let code = getD (g .commands .now) (3 * k + 1) 0 in
+    let put : PutAt (l .loop .out) (l .loop .at) (answerText op code) (p .put-answer .result) (p .put-answer .last .0) = p .put-answer .ensures in (
       search needs,
-      omega (arith, room, p .put-answer .ensures .place),
+      omega (arith, answer-room op code, put .place),
       search needs,
       sym (writes-then _ (answersFrom (g .commands .now) (g .count) (k + 1))
-          (l .loop .out) (l .loop .at) (p .put-answer .result) (p .put-answer .last .0) (p .put-answer .ensures))
+          (l .loop .out) (l .loop .at) (p .put-answer .result) (p .put-answer .last .0) put)
           ∙ (rw (answers-more (g .commands .now) (g .count) k (omega arith)) at (l .loop .inv .3)),
     )
 

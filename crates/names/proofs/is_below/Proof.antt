@@ -56,7 +56,7 @@ mul-is-prefix : tie.Need-mul-is-prefix Inv-loop μ-loop Inv-each μ-each
 mul-is-prefix c = search needs
 
 element-copy-out-is-prefix : tie.Need-element-copy-out-is-prefix Inv-loop μ-loop Inv-each μ-each
-element-copy-out-is-prefix c = search needs
+element-copy-out-is-prefix c = omega arith
 
 is-prefix-requires : tie.Need-is-prefix-requires Inv-loop μ-loop Inv-each μ-each
 is-prefix-requires c κs = search needs

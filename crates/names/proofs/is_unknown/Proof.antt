@@ -34,7 +34,7 @@ told-requires c κs = search needs
 
 loop-holds : tie.Need-loop-holds Inv-loop μ-loop
 unfolding unknownTo
-loop-holds c = (search needs, refl)
+loop-holds c = (omega arith, refl)
 
 mul-s : tie.Need-mul-s Inv-loop μ-loop
 mul-s c = search needs

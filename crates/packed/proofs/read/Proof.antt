@@ -150,7 +150,8 @@ returns-5 c =
     let i = f .before .before .before in
     let u = i .before .before .before in
     let b = u .before .before .before .args .b .now in
-    c .refused5 .ensures
+    let h : c .refused5 .result ≡ record { answer = Refused Unlawful; stamp = blank narrow } = c .refused5 .ensures in
+    h
     ∙ judged b (record { update = u .name-at .result .name; id = i .name-at2 .result .name }) (u .name-at .result .next) (i .name-at2 .result .next)
     _ _ false (u .name-at .ensures) (not-false _ (i .before .if2 .left)) (i .name-at2 .ensures) (not-false _ (f .before .if3 .left))
     (sym (not-false _ (c .before .before .before .before .before .if4 .left)) ∙ f .is-filling .ensures)

@@ -104,7 +104,7 @@ add-at : tie.Need-add-at
 add-at c = search needs
 
 bits-at-requires-2 : tie.Need-bits-at-requires-2
-bits-at-requires-2 c κs = search needs
+bits-at-requires-2 c κs = (omega arith, omega arith, omega arith)
 
 word-requires : tie.Need-word-requires
 word-requires c κs =

@@ -1,4 +1,5 @@
 -- `tables::after` meets its contract. Assumes nothing.
+use native.Mathlib.Omega.{arith}
 use borrow.Author.Tests.{lt-ltb, le-ltb}
 use Rattle.tables.specs.Scans.{nextOf}
 use borrow.Author.Needs.{needs}
@@ -10,11 +11,11 @@ add-result c = search needs
 
 returns : tie.Need-returns
 unfolding nextOf
-returns c = simp (lt-ltb _ _ (c .if1 .taken))
+returns c = simp (lt-ltb (c .before .args .n) 32 (omega arith))
 
 returns-2 : tie.Need-returns-2
 unfolding nextOf
-returns-2 c = simp (le-ltb _ _ (c .if1 .left))
+returns-2 c = simp (le-ltb (c .before .args .n) 32 (omega arith))
 
 pub after-spec : {M : Type 1} → statement M
 after-spec = tie.close (tie.spec add-result returns returns-2)

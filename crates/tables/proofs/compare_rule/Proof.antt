@@ -6,6 +6,7 @@ use Rattle.rules.specs.Limits.{narrow}
 use Rattle.rules.specs.Packed.{comparedNumber}
 use Rattle.rules.specs.Refusals.{first}
 use Rattle.rules.specs.Stored.{unlawful, isStored}
+use Rattle.rules.specs.Values.{compared}
 use Rattle.tables.specs.Rules.{compareRule}
 use Rattle.tables.proofs.Forms.{compare-form}
 use borrow.Author.Needs.{needs}
@@ -91,8 +92,9 @@ returns-6 c =
     let g = a .before .before .args in
     let e : isStored narrow (g .s) ≡ true = sym (l .before .is-lawful .ensures) ∙ not-false _ (l .if3 .left) in
     let d : isStored narrow (g .u) ≡ true = sym (m .before .is-lawful2 .ensures) ∙ not-false _ (m .if4 .left) in
+    let h : c .before .compare .result ≡ compared narrow (g .s) (g .u) = c .before .compare .ensures in
     simp (sym (a .before .is-absent .ensures) ∙ a .if1 .left, sym (p .before .is-absent2 .ensures) ∙ p .if2 .left, e, d, ne-eqb _ _ (k .if5 .left))
-    (c .compared-code .ensures ∙ ap comparedNumber (c .before .compare .ensures ∙ compare-form (g .s) (g .u) e d))
+    (c .compared-code .ensures ∙ ap comparedNumber (h ∙ compare-form (g .s) (g .u) e d))
 
 pub compare-rule-spec : {M : Type 1} → statement M
 compare-rule-spec =

@@ -53,8 +53,10 @@ returns-4 c =
     let a = l .before .before in
     let g = a .before .before .args in
     let e : isStored narrow (g .s) ≡ true = sym (l .before .is-lawful .ensures) ∙ not-false _ (l .if2 .left) in
+    let x = f .fork .result in
+    let h : c .settle-two .result ≡ twoOf (x .answer) (g .b) (g .s) (g .u) (x .zero) (x .one) = c .settle-two .ensures in
     simp (sym (a .before .is-absent .ensures) ∙ a .if1 .left, e, ne-eqb _ _ (k .if3 .left))
-    (c .settle-two .ensures
+    (h
     ∙ ap (λ (f : Forked). twoOf (f .answer) (g .b) (g .s) (g .u) (f .zero) (f .one)) (f .fork .ensures ∙ fork-form (g .s) e)
     ∙ two-branches (first ((long narrow (held (g .s)), Long) ∷ [])) (g .b) (g .s) (g .u) (fork false (held (g .s))) (fork true (held (g .s))))
 

@@ -27,7 +27,7 @@ room g = field-length (g .args .t1 .words) (g .good .0 .1 .1 .1 .0 .1 .0 .1)
 
 returns : tie.Need-returns Inv-loop μ-loop
 unfolding sameWords wordsOf
-returns c = simp (ne-eqb _ _ (c .if1 .taken))
+returns c = simp (ne-eqb (c .before .args .t1 .count) 0 (λ e. omega arith))
 
 loop-holds : tie.Need-loop-holds Inv-loop μ-loop
 loop-holds c = (search needs, search needs, refl)
@@ -44,7 +44,7 @@ returns-2 c =
     let l = c .before .before .before in
     let g = l .before .before in
     let ws = g .args .t1 .words in
-    sym (simp (eq-eqb _ _ (l .loop .inv .1)) (sym (l .loop .inv .2) ∙ zero-stop 16 ws (room g) (l .loop .i) (omega arith) (c .if2 .taken)))
+    sym (simp (eq-eqb _ _ (l .loop .inv .1)) (sym (l .loop .inv .2) ∙ zero-stop 16 ws (room g) (l .loop .i) (omega arith) (λ e. omega arith)))
 
 add-i : tie.Need-add-i Inv-loop μ-loop
 add-i c = search needs
@@ -57,7 +57,7 @@ loop-again c =
     let l = c .before .before .before in
     let g = l .before .before in
     let ws = g .args .t1 .words in
-    (search needs, search needs, sym (zero-more 16 ws (room g) (l .loop .i) (omega arith) (c .if2 .left)) ∙ l .loop .inv .2)
+    (search needs, search needs, sym (zero-more 16 ws (room g) (l .loop .i) (omega arith) (omega arith)) ∙ l .loop .inv .2)
 
 returns-3 : tie.Need-returns-3 Inv-loop μ-loop
 unfolding sameWords wordsOf

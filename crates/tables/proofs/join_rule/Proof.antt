@@ -1,5 +1,5 @@
 -- `tables::join_rule` meets its contract: what `pair_code` refuses, and else the answer of `joins::join`. Assumes nothing.
-use mathlib.Core.Path.{ap, _∙_}
+use mathlib.Core.Path.{_≡_, ap, _∙_}
 use Rattle.rules.specs.declared.Record.{Record}
 use Rattle.tables.specs.Rules.{twoOf}
 use Rattle.tables.proofs.Forms.{none-is, join-refused, join-asked}
@@ -29,7 +29,9 @@ returns-2 c =
     let j = c .before .before .before in
     let k = j .before in
     let g = k .before .before .args in
-    c .settle-two .ensures
+    let none = c .before .empties .result in
+    let h : c .settle-two .result ≡ twoOf (j .join .result .answer) (g .a) (g .s) (g .u) (j .join .result .stamp) none = c .settle-two .ensures in
+    h
     ∙ ap (λ (y : Record). twoOf (j .join .result .answer) (g .a) (g .s) (g .u) (j .join .result .stamp) y) (c .before .empties .ensures ∙ none-is)
     ∙ join-asked (g .a) (g .b) (g .s) (g .u) (k .before .pair-code .result) (k .before .pair-code .ensures) (k .if1 .left) (j .join .result) (j .join .ensures)
 

@@ -1,6 +1,8 @@
 -- `tables::meet_code` meets its contract. Assumes nothing.
-use mathlib.Core.Path.{sym, ap, _∙_}
+use mathlib.Core.Path.{_≡_, sym, ap, _∙_}
+use Rattle.rules.specs.Limits.{narrow}
 use Rattle.rules.specs.Stored.{unlawful}
+use Rattle.rules.specs.Values.{compared}
 use Rattle.tables.specs.Scans.{meetCode, spareCode}
 use borrow.Author.Needs.{needs}
 use Rattle.tables.proofs.meet_code.Statement.{statement}
@@ -18,8 +20,10 @@ spare-code-requires c κs = search needs
 returns : tie.Need-returns
 unfolding meetCode unlawful
 returns c =
+    let g = c .before .before .before .before .args in
+    let h : c .before .compare .result ≡ compared narrow (g .m) (g .r) = c .before .compare .ensures in
     simp (sym (c .before .before .before .is-lawful .ensures) ∙ c .before .before .if1 .taken)
-    (c .spare-code .ensures ∙ ap spareCode (c .before .compare .ensures))
+    (c .spare-code .ensures ∙ ap spareCode h)
 
 returns-2 : tie.Need-returns-2
 unfolding meetCode unlawful

@@ -23,7 +23,7 @@ refusal-code-requires c κs = search needs
 
 -- src/lib.rt:193:1
 returns : tie.Need-returns
-returns c = search needs
+returns c = c .is-obsolete .ensures ∙ sym (ap spareCode (c .before .before .c .given .1))
 
 -- src/lib.rt:193:1
 returns-2 : tie.Need-returns-2

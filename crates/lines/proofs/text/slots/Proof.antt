@@ -47,7 +47,7 @@ sub-slot : tie.Need-sub-slot
 sub-slot c =
     let i = c .before .before in
     let h = first-inside 32 (i .before .before .before .args .rest .now) (i .before .first-space .result) (i .before .first-space .ensures) (i .if1 .left) in
-    search needs
+    omega arith
 
 part-slot-start : tie.Need-part-slot-start
 part-slot-start c =
