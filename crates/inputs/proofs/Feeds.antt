@@ -22,7 +22,7 @@ use Rattle.traces.specs.Serves.{ranTable, ranIn}
 use Rattle.traces.proofs.Ran.{answered-length, ran-table}
 use Rattle.inputs.specs.declared.Trace.{Trace}
 use Rattle.inputs.specs.declared.Fed.{Fed}
-use Rattle.inputs.specs.Pieces.{pieceText, after, fed, fedCommands, fedOut, closed}
+use Rattle.inputs.specs.Pieces.{pieceText, after, fed, fedCommands, fedOut, closed, closedOut}
 
 -- ---- numbers at the front of a buffer
 
@@ -109,31 +109,26 @@ module _ (s : Trace) (p : Text) (commands out : List ℕ) where
       rw (e, f) ((λ i. record { trace = record { line = gl i .line; table = tl i }; taken = true; len = nl i }), dl, ol)
 
   -- with room it is taken, and its text fits
-  pub fed-taken : 3 * length p ≤ length commands → 11 * length p ≤ length out → fed s p commands out .taken ≡ true
-  unfolding fed
-  fed-taken h k = rw (le-leb (3 * length p) (length commands) h, le-leb (11 * length p) (length out) k)
-
-  pub fed-fits : 3 * length p ≤ length commands → 11 * length p ≤ length out → fed s p commands out .len ≤ length out
-  unfolding fed pieceText
-  fed-fits h k =
-      let cs = ended (s .line) p in
-      rw (le-leb (3 * length p) (length commands) h, le-leb (11 * length p) (length out) k)
-      (omega (arith, answers-fit (answered narrow (s .table) cs), answered-length narrow cs (s .table), ended-few p (s .line)))
+  pub fed-shown : (r : Fed) (o : List ℕ) → r ≡ fed s p commands out → o ≡ fedOut s p commands out → 3 * length p ≤ length commands → 11 * length p ≤ length out
+      → (r .taken ≡ true) × (r .len ≤ length o)
+  unfolding fed fedOut
+  fed-shown r o re oe h k =
+      let e = le-leb (3 * length p) (length commands) h in
+      let f = le-leb (11 * length p) (length out) k in
+      let text = pieceText s p in
+      let rl : r ≡ record { trace = after s p; taken = true; len = length text } = rw (e, f) at re in
+      let ol : o ≡ over text out = rw (e, f) at oe in
+      (ap (λ (x : Fed). x .taken) rl,
+      rw (rl, ol) (omega (arith, length-append text (drop (length text) out))))
 
 -- the same at the end of the input
-module _ (s : Trace) (commands out : List ℕ) (h : 3 ≤ length commands) (k : 11 ≤ length out) where
-  pub closed-taken : closed s commands out .taken ≡ true
-  unfolding closed
-  closed-taken = by (eqb (s .line .len) 0)
+module _ (s : Trace) (commands out : List ℕ) where
+  pub closed-shown : (r : Fed) (o : List ℕ) → r ≡ closed s commands out → o ≡ closedOut s commands out → 3 ≤ length commands → 11 ≤ length out
+      → (r .taken ≡ true) × (r .len ≤ length o)
+  unfolding closed closedOut
+  closed-shown r o re oe h k = by (eqb (s .line .len) 0) re oe
     where
-      by : (b : Bool) → cond b (record { trace = s; taken = true; len = 0 }) (fed s (10 ∷ []) commands out) .taken ≡ true
-      by true = refl
-      by false = fed-taken s (10 ∷ []) commands out h k
-
-  pub closed-fits : closed s commands out .len ≤ length out
-  unfolding closed
-  closed-fits = by (eqb (s .line .len) 0)
-    where
-      by : (b : Bool) → cond b (record { trace = s; taken = true; len = 0 }) (fed s (10 ∷ []) commands out) .len ≤ length out
-      by true = omega arith
-      by false = fed-fits s (10 ∷ []) commands out h k
+      by : (b : Bool) → r ≡ cond b (record { trace = s; taken = true; len = 0 }) (fed s (10 ∷ []) commands out) → o ≡ cond b out (fedOut s (10 ∷ []) commands out)
+          → (r .taken ≡ true) × (r .len ≤ length o)
+      by true re oe = (ap (λ (x : Fed). x .taken) re, rw re (omega arith))
+      by false re oe = fed-shown s (10 ∷ []) commands out r o re oe h k

@@ -30,22 +30,23 @@ fn answer(piece: &mut [u8], commands: &mut [u64], out: &mut [u8])
 {
     let mut trace = inputs::start();
     let mut turns = u64::MAX;
-    while turns > 0 {
-        turns -= 1;
-        let got = libc::read(STDIN_FILENO, piece);
-        if got < 0 {
-            os::fail(b"trace: read");
+    let mut got = libc::read(STDIN_FILENO, piece);
+    while got > 0 {
+        if turns == 0 {
             return;
         }
+        turns -= 1;
         let n = io::count(got, piece);
-        if n == 0 {
-            break;
-        }
         let fed = inputs::feed(trace, &piece[..n], commands, out);
         if !show(out, fed) {
             return;
         }
         trace = fed.trace;
+        got = libc::read(STDIN_FILENO, piece);
+    }
+    if got < 0 {
+        os::fail(b"trace: read");
+        return;
     }
     let last = inputs::close(trace, commands, out);
     show(out, last);
