@@ -117,9 +117,10 @@ module _ (s : Trace) (p : Text) (commands out : List ℕ) where
       let f = le-leb (11 * length p) (length out) k in
       let text = pieceText s p in
       let rl : r ≡ record { trace = after s p; taken = true; len = length text } = rw (e, f) at re in
-      let ol : o ≡ over text out = rw (e, f) at oe in
-      (ap (λ (x : Fed). x .taken) rl,
-      rw (rl, ol) (omega (arith, length-append text (drop (length text) out))))
+      let ol : o ≡ over text out = rw (e, f) at oe in (
+        ap (λ (x : Fed). x .taken) rl,
+        rw (rl, ol) (omega (arith, length-append text (drop (length text) out))),
+      )
 
 -- the same at the end of the input
 module _ (s : Trace) (commands out : List ℕ) where

@@ -10,8 +10,7 @@ use Rattle.rules.specs.Tables.{freshTable}
 use Rattle.rules.specs.Traces.{Text, traced}
 use Rattle.lines.specs.declared.Line.{Line}
 use Rattle.lines.specs.declared.Command.{Command}
-use Rattle.lines.specs.declared.Finished.the-variants.{Last, Nothing}
-use Rattle.lines.specs.Commands.{parsed, begun, ended, left, finished, lastOf, allGathered, whole}
+use Rattle.lines.specs.Commands.{parsed, begun, ended, left, lastOf, allGathered, whole}
 use Rattle.lines.specs.Answers.{answersText}
 use Rattle.lines.specs.Runs.{answered, tableAfter}
 use Rattle.lines.proofs.Runs.{prints-traced, answered-append, answers-append}
@@ -19,12 +18,12 @@ use Rattle.inputs.specs.declared.Trace.{Trace}
 use Rattle.inputs.specs.Pieces.{started, pieceText, after, endText, textOf}
 
 -- the last line, where it is something
-end-last : (s : Trace) → endText s ≡ answersText (answered narrow (s .table) (lastOf (finished (s .line))))
-unfolding endText finished pieceText ended answersText answered
+end-last : (s : Trace) → endText s ≡ answersText (answered narrow (s .table) (lastOf (s .line)))
+unfolding endText lastOf pieceText ended answersText answered
 end-last s = by (eqb (s .line .len) 0)
   where
     by : (b : Bool) → cond b [] (answersText (answered narrow (s .table) (parsed (s .line) ∷ [])))
-        ≡ answersText (answered narrow (s .table) (lastOf (cond b Nothing (Last (parsed (s .line))))))
+        ≡ answersText (answered narrow (s .table) (cond b [] (parsed (s .line) ∷ [])))
     by true = refl
     by false = refl
 
@@ -32,8 +31,10 @@ pub text-all : (ps : List Text) (s : Trace) → textOf s ps ≡ answersText (ans
 unfolding textOf allGathered pieceText after
 text-all [] s = end-last s
 text-all (p ∷ ps) s =
-    rw (answered-append narrow (ended (s .line) p) (allGathered (left (s .line) p) ps) (s .table),
-      answers-append (answered narrow (s .table) (ended (s .line) p)) (answered narrow (tableAfter narrow (s .table) (ended (s .line) p)) (allGathered (left (s .line) p) ps)))
+    rw (
+      answered-append narrow (ended (s .line) p) (allGathered (left (s .line) p) ps) (s .table),
+      answers-append (answered narrow (s .table) (ended (s .line) p)) (answered narrow (tableAfter narrow (s .table) (ended (s .line) p)) (allGathered (left (s .line) p) ps)),
+    )
     (ap (λ (t : Text). answersText (answered narrow (s .table) (ended (s .line) p)) ++ t) (text-all ps (after s p)))
 
 -- what a program prints that feeds the pieces and then closes

@@ -35,10 +35,18 @@ pub fn feed(trace: Trace, piece: &[u8], commands: &mut [u64], out: &mut [u8]) ->
         × (now (out .exit) ≡ fedOut trace (now (piece .entry)) (now (commands .entry)) (now (out .entry))) ⌝ }
 {
     if commands.len() / 3 < piece.len() {
-        return Fed { trace, taken: false, len: 0 };
+        return Fed {
+            trace,
+            taken: false,
+            len: 0,
+        };
     }
     if out.len() / 11 < piece.len() {
-        return Fed { trace, taken: false, len: 0 };
+        return Fed {
+            trace,
+            taken: false,
+            len: 0,
+        };
     }
     let held = trace.line;
     let before = trace.table;
@@ -63,7 +71,11 @@ pub fn close(trace: Trace, commands: &mut [u64], out: &mut [u8]) -> Fed
 {
     let n = trace.line.len;
     if n == 0 {
-        return Fed { trace, taken: true, len: 0 };
+        return Fed {
+            trace,
+            taken: true,
+            len: 0,
+        };
     }
     feed(trace, b"\n", commands, out)
 }

@@ -12,7 +12,10 @@ use libc::STDOUT_FILENO;
 fn main() {
     if os::arg_count() > 1 {
         io::write_all(STDERR_FILENO, b"usage: trace < FILE\n");
-        io::write_all(STDERR_FILENO, b"Each line of FILE is one of: U a, F a, J a b, C a b, S a (slots 0 to 31).\n");
+        io::write_all(
+            STDERR_FILENO,
+            b"Each line of FILE is one of: U a, F a, J a b, C a b, S a (slots 0 to 31).\n",
+        );
         return;
     }
     let mut piece = [0u8; 16384];
