@@ -13,7 +13,7 @@ use lib.Seq.{take-all, take-suc-set, take-append-le}
 use Rattle.rules.specs.Traces.{Text, readLine, readLines, linesOf, dropEmptyLast, splitAt, ontoFirst}
 use Rattle.lines.specs.declared.Line.{Line}
 use Rattle.lines.specs.declared.Command.{Command}
-use Rattle.lines.specs.Commands.{commandOf, commandsOf, textOf, parsed, begun, pushed, ended, left, finished, lastOf, allGathered, whole}
+use Rattle.lines.specs.Commands.{commandOf, commandsOf, textOf, parsed, begun, pushed, ended, left, lastOf, allGathered, whole}
 use Rattle.lines.proofs.Splits.{parts}
 use Rattle.lines.proofs.Reading.{read-eight}
 
@@ -41,7 +41,7 @@ ended-append (x ∷ p) q l = by (eqb x 10) (λ m. ended-append p q m)
     by false ih = ih (pushed l x)
 
 -- pieces are one piece, and then the last line
-pub all-whole : (ps : List Text) (l : Line) → allGathered l ps ≡ ended l (whole ps) ++ lastOf (finished (left l (whole ps)))
+pub all-whole : (ps : List Text) (l : Line) → allGathered l ps ≡ ended l (whole ps) ++ lastOf (left l (whole ps))
 unfolding allGathered whole left ended
 all-whole [] l = refl
 all-whole (p ∷ ps) l =
@@ -97,21 +97,21 @@ before t [] = t ∷ []
 before t (p ∷ ps) = (t ++ p) ∷ ps
 
 -- the last line, where it is something
-last-line : (l : Line) (t : Text) → Holds l t → lastOf (finished l) ≡ commandsOf (readLines (dropEmptyLast (t ∷ [])))
-unfolding finished commandsOf readLines dropEmptyLast
+last-line : (l : Line) (t : Text) → Holds l t → lastOf l ≡ commandsOf (readLines (dropEmptyLast (t ∷ [])))
+unfolding lastOf commandsOf readLines dropEmptyLast
 last-line l [] h = rw (eq-eqb (l .len) 0 (h .size))
 last-line l (x ∷ t) h = rw (ne-eqb (l .len) 0 (λ e. omega (arith, e, h .size)), holds-says l (x ∷ t) h)
 
 lines-from : (input : Text) (l : Line) (t : Text) → Holds l t
-    → ended l input ++ lastOf (finished (left l input)) ≡ commandsOf (readLines (dropEmptyLast (before t (splitAt 10 input))))
+    → ended l input ++ lastOf (left l input) ≡ commandsOf (readLines (dropEmptyLast (before t (splitAt 10 input))))
 unfolding ended left splitAt before commandsOf readLines dropEmptyLast
 lines-from [] l t h = rw append-nil (last-line l t h)
 lines-from (x ∷ input) l t h = by (eqb x 10) (parts 10 input) (λ m s k. lines-from input m s k)
   where
     by : (b : Bool) → (p : Text) × (ps : List Text) × (splitAt 10 input ≡ p ∷ ps)
         → ((m : Line) (s : Text) → Holds m s
-        → ended m input ++ lastOf (finished (left m input)) ≡ commandsOf (readLines (dropEmptyLast (before s (splitAt 10 input)))))
-        → cond b (parsed l ∷ ended begun input) (ended (pushed l x) input) ++ lastOf (finished (cond b (left begun input) (left (pushed l x) input)))
+        → ended m input ++ lastOf (left m input) ≡ commandsOf (readLines (dropEmptyLast (before s (splitAt 10 input)))))
+        → cond b (parsed l ∷ ended begun input) (ended (pushed l x) input) ++ lastOf (cond b (left begun input) (left (pushed l x) input))
         ≡ commandsOf (readLines (dropEmptyLast (before t (cond b ([] ∷ splitAt 10 input) (ontoFirst x (splitAt 10 input))))))
     by true r ih = rw (ih begun [] holds-begun, r .2, append-nil, holds-says l t h)
     by false r ih = rw (ih (pushed l x) (t ++ (x ∷ [])) (holds-pushed l t x h), r .2, append-assoc)

@@ -53,7 +53,7 @@ pub gathers-end : (l : Line) (p : Text) (buffer : List ℕ) (n i : ℕ) → leng
 unfolding gathers left ended numbers
 gathers-end l p buffer n i h = rw (drop-of-length-le p h, add-zero)
 
-ended-few : (p : Text) (l : Line) → length (ended l p) ≤ length p
+pub ended-few : (p : Text) (l : Line) → length (ended l p) ≤ length p
 unfolding ended
 ended-few [] l = omega arith
 ended-few (x ∷ p) l = by (eqb x 10) (λ m. ended-few p m)

@@ -9,8 +9,6 @@ use Rattle.rules.specs.Packed.{over}
 use Rattle.lines.specs.declared.Line.{Line}
 use Rattle.lines.specs.declared.Command.{Command}
 use Rattle.lines.specs.declared.Gathered.{Gathered}
-use Rattle.lines.specs.declared.Finished.{Finished}
-use Rattle.lines.specs.declared.Finished.the-variants.{Last, Nothing}
 
 -- ---- a line
 
@@ -58,10 +56,6 @@ unfoldable pub left : Line → Text → Line
 left l [] = l
 left l (x ∷ p) = cond (eqb x 10) (left begun p) (left (pushed l x) p)
 
--- a last line without newline, where it is something
-unfoldable pub finished : Line → Finished
-finished l = cond (eqb (l .len) 0) Nothing (Last (parsed l))
-
 -- ---- commands in a buffer, three numbers each
 
 unfoldable pub numbers : List Command → List ℕ
@@ -90,10 +84,10 @@ unfoldable pub whole : List Text → Text
 whole [] = []
 whole (p ∷ ps) = p ++ whole ps
 
-abbrev pub lastOf : Finished → List Command
-lastOf (Last c) = c ∷ []
-lastOf Nothing = []
+-- a last line without newline, where it is something
+unfoldable pub lastOf : Line → List Command
+lastOf l = cond (eqb (l .len) 0) [] (parsed l ∷ [])
 
 unfoldable pub allGathered : Line → List Text → List Command
-allGathered l [] = lastOf (finished l)
+allGathered l [] = lastOf l
 allGathered l (p ∷ ps) = ended l p ++ allGathered (left l p) ps

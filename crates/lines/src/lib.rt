@@ -8,7 +8,7 @@ ghost use mathlib.Core.List.{[], _∷_};
 ghost use Prim.Native.Nat.{_+_, _≤_};
 ghost use lib.ListN.{length};
 ghost use lib.Seq.{sets};
-ghost use Rattle.lines.specs.Commands.{begun, pushed, parsed, finished, gathered, gatheredIn};
+ghost use Rattle.lines.specs.Commands.{begun, pushed, parsed, gathered, gatheredIn};
 ghost use Rattle.lines.specs.Answers.{printed, printedIn};
 
 // The letters, as a command has them: U, F, J, C, S.
@@ -42,14 +42,6 @@ pub struct Command {
 pub struct Gathered {
     pub line: Line,
     pub count: usize,
-}
-
-// What the end of the input leaves.
-pub enum Finished {
-    // the command of a last line without newline
-    Last(Command),
-    // the input ended with a newline, or was empty
-    Nothing,
 }
 
 // The line before its first byte.
@@ -112,17 +104,6 @@ pub fn gather(line: Line, piece: &[u8], commands: &mut [u64]) -> Gathered
         }
     }
     Gathered { line: held, count }
-}
-
-// The command of the last line, where the input ended without a newline.
-pub fn finish(line: Line) -> Finished
-    ensures { λ r. ⌜ r ≡ finished line ⌝ }
-{
-    let n = line.len;
-    if n == 0 {
-        return Finished::Nothing;
-    }
-    Finished::Last(parse(line))
 }
 
 // The text of the first `count` answers, at the front of the buffer; the rest of it stays. Gives the text's length.

@@ -1,0 +1,43 @@
+-- All pieces together print what the rules say of the whole input, however it was cut. What a piece leaves is what the next one starts from, so the
+-- pieces' answers are the answers to all lines, one after the other. Assumes nothing.
+use mathlib.Core.Path.{_≡_, refl, sym, ap, ap₂, _∙_}
+use mathlib.Core.Bool.{Bool, true, false, cond}
+use mathlib.Core.List.{List, [], _∷_, _++_}
+use Prim.Native.Nat.{ℕ}
+use lib.Dec.{eqb}
+use Rattle.rules.specs.Limits.{narrow, records}
+use Rattle.rules.specs.Tables.{freshTable}
+use Rattle.rules.specs.Traces.{Text, traced}
+use Rattle.lines.specs.declared.Line.{Line}
+use Rattle.lines.specs.declared.Command.{Command}
+use Rattle.lines.specs.Commands.{parsed, begun, ended, left, lastOf, allGathered, whole}
+use Rattle.lines.specs.Answers.{answersText}
+use Rattle.lines.specs.Runs.{answered, tableAfter}
+use Rattle.lines.proofs.Runs.{prints-traced, answered-append, answers-append}
+use Rattle.inputs.specs.declared.Trace.{Trace}
+use Rattle.inputs.specs.Pieces.{started, pieceText, after, endText, textOf}
+
+-- the last line, where it is something
+end-last : (s : Trace) → endText s ≡ answersText (answered narrow (s .table) (lastOf (s .line)))
+unfolding endText lastOf pieceText ended answersText answered
+end-last s = by (eqb (s .line .len) 0)
+  where
+    by : (b : Bool) → cond b [] (answersText (answered narrow (s .table) (parsed (s .line) ∷ [])))
+        ≡ answersText (answered narrow (s .table) (cond b [] (parsed (s .line) ∷ [])))
+    by true = refl
+    by false = refl
+
+pub text-all : (ps : List Text) (s : Trace) → textOf s ps ≡ answersText (answered narrow (s .table) (allGathered (s .line) ps))
+unfolding textOf allGathered pieceText after
+text-all [] s = end-last s
+text-all (p ∷ ps) s =
+    rw (
+      answered-append narrow (ended (s .line) p) (allGathered (left (s .line) p) ps) (s .table),
+      answers-append (answered narrow (s .table) (ended (s .line) p)) (answered narrow (tableAfter narrow (s .table) (ended (s .line) p)) (allGathered (left (s .line) p) ps)),
+    )
+    (ap (λ (t : Text). answersText (answered narrow (s .table) (ended (s .line) p)) ++ t) (text-all ps (after s p)))
+
+-- what a program prints that feeds the pieces and then closes
+pub printed-traced : (ps : List Text) → textOf started ps ≡ traced narrow (whole ps)
+unfolding started
+printed-traced ps = text-all ps started ∙ prints-traced narrow ps

@@ -1,0 +1,69 @@
+// The trace tool: answers the lines of standard input on standard output. What is printed stands in `inputs`; here is the loop over the pieces.
+ghost use mathlib.Core.Path.{_≡_};
+ghost use mathlib.Core.Bool.{true};
+ghost use Prim.Native.Nat.{_*_, _≤_, _<_};
+ghost use lib.ListN.{length};
+use inputs::Fed;
+use libc::STDERR_FILENO;
+use libc::STDIN_FILENO;
+use libc::STDOUT_FILENO;
+
+// A piece is at most 16,384 bytes, so there are at most as many commands, of three numbers, and as many lines of at most 11 bytes.
+fn main() {
+    if os::arg_count() > 1 {
+        io::write_all(STDERR_FILENO, b"usage: trace < FILE\n");
+        io::write_all(
+            STDERR_FILENO,
+            b"Each line of FILE is one of: U a, F a, J a b, C a b, S a (slots 0 to 31).\n",
+        );
+        return;
+    }
+    let mut piece = [0u8; 16384];
+    let mut commands = [0u64; 49152];
+    let mut out = [0u8; 180224];
+    answer(&mut piece, &mut commands, &mut out);
+}
+
+// Piece after piece to the end of the input, then a last line without newline. A read or a write that fails ends it.
+// A proved loop has to end, so it counts its turns down, from a number that no run uses up.
+fn answer(piece: &mut [u8], commands: &mut [u64], out: &mut [u8])
+    requires { ⌜ 0 < length (now piece) ⌝ }
+    requires { ⌜ 3 * length (now piece) ≤ length (now commands) ⌝ }
+    requires { ⌜ 11 * length (now piece) ≤ length (now out) ⌝ }
+{
+    let mut trace = inputs::start();
+    let mut turns = u64::MAX;
+    let mut got = libc::read(STDIN_FILENO, piece);
+    while got > 0 {
+        if turns == 0 {
+            return;
+        }
+        turns -= 1;
+        let n = io::count(got, piece);
+        let fed = inputs::feed(trace, &piece[..n], commands, out);
+        if !show(out, fed) {
+            return;
+        }
+        trace = fed.trace;
+        got = libc::read(STDIN_FILENO, piece);
+    }
+    if got < 0 {
+        os::fail(b"trace: read");
+        return;
+    }
+    let last = inputs::close(trace, commands, out);
+    show(out, last);
+}
+
+// The text of a piece that was taken, on standard output, or why not on standard error.
+fn show(out: &[u8], fed: Fed) -> bool
+    requires { ⌜ fed .taken ≡ true ⌝ }
+    requires { ⌜ fed .len ≤ length (now out) ⌝ }
+{
+    let n = fed.len;
+    let is_written = io::write_all(STDOUT_FILENO, &out[..n]);
+    if !is_written {
+        os::fail(b"trace: write");
+    }
+    is_written
+}

@@ -1,0 +1,110 @@
+-- What the loop over a buffer's commands comes to from a turn on: a turn leaves it as it was, at the end it is what stands there, and at the start
+-- it is what the contract says. Assumes nothing.
+use mathlib.Core.Path.{_≡_, refl, ap, _∙_}
+use mathlib.Core.Bool.{Bool, true, false, cond}
+use mathlib.Core.List.{List, [], _∷_}
+use Prim.Native.Nat.{ℕ, zero, suc, _+_, _*_, _-_, _/_, _≤_, _<_}
+use native.Mathlib.Omega.{arith}
+use borrow.Author.Tests.{le-leb, lt-leb, leb-true, leb-false, lt-ltb}
+use lib.Dec.{leb}
+use lib.ListN.{length, getD, set}
+use Rattle.rules.specs.Limits.{narrow}
+use Rattle.rules.specs.Packed.{over}
+use Rattle.rules.specs.Tables.{Table}
+use Rattle.rules.specs.Traces.{Line, lineTable}
+use Rattle.lines.specs.Commands.{numbers, commandsIn}
+use Rattle.lines.specs.Runs.{meant, answerNumber, answered, tableAfter}
+use Rattle.traces.specs.Serves.{command, ranCount, ranTable, ranIn}
+use Rattle.traces.specs.Inner.{callAt, putAt, saidAt, readyOf}
+
+-- the command at place i, and what its turn leaves
+abbrev pub lineAt : List ℕ → ℕ → Line
+lineAt l i = meant (command (getD l i 0) (getD l (suc i) 0) (getD l (suc (suc i)) 0))
+
+abbrev pub turned : Table → List ℕ → ℕ → List ℕ
+turned t l i = set l (suc i) (answerNumber narrow t (lineAt l i))
+
+-- n commands from place i on
+unfoldable pub runs : ℕ → ℕ → Table → List ℕ → Table × List ℕ
+runs zero i t l = (t, l)
+runs (suc n) i t l = runs n (suc (suc (suc i))) (lineTable narrow t (lineAt l i)) (turned t l i)
+
+-- a turn at the k-th, whose answer is d and which leaves u
+pub runs-turn : (count k : ℕ) (t u : Table) (l : List ℕ) (d : ℕ) → k < count
+    → d ≡ answerNumber narrow t (meant (command (getD l (3 * k) 0) (getD l (3 * k + 1) 0) (getD l (3 * k + 2) 0)))
+    → u ≡ lineTable narrow t (meant (command (getD l (3 * k) 0) (getD l (3 * k + 1) 0) (getD l (3 * k + 2) 0)))
+    → runs (count - (k + 1)) (3 * (k + 1)) u (set l (3 * k + 1) d) ≡ runs (count - k) (3 * k) t l
+unfolding runs
+runs-turn count k t u l d h said left =
+    let less : count - k ≡ suc (count - (k + 1)) = omega arith in
+    let behind : 3 * (k + 1) ≡ suc (suc (suc (3 * k))) = omega arith in
+    let one : 3 * k + 1 ≡ suc (3 * k) = omega arith in
+    let two : 3 * k + 2 ≡ suc (suc (3 * k)) = omega arith in
+    rw (said, left, less, behind, two, one)
+
+pub runs-end : (count k : ℕ) (t : Table) (l : List ℕ) → count ≤ k → runs (count - k) (3 * k) t l ≡ (t, l)
+unfolding runs
+runs-end count k t l h = let none : count - k ≡ 0 = omega arith in rw none
+
+-- a command in front is not looked at again
+runs-behind : (n i : ℕ) (t : Table) (l : List ℕ) (x y z : ℕ)
+    → runs n (suc (suc (suc i))) t (x ∷ y ∷ z ∷ l) ≡ (runs n i t l .0, x ∷ y ∷ z ∷ runs n i t l .1)
+unfolding runs
+runs-behind zero i t l x y z = refl
+runs-behind (suc n) i t l x y z = runs-behind n (suc (suc (suc i))) (lineTable narrow t (lineAt l i)) (turned t l i) x y z
+
+runs-front : (n : ℕ) (t : Table) (l : List ℕ) → 3 * n ≤ length l
+    → runs n 0 t l ≡ (tableAfter narrow t (commandsIn n l), over (numbers (answered narrow t (commandsIn n l))) l)
+unfolding runs commandsIn answered tableAfter numbers
+runs-front zero t l h = refl
+runs-front (suc n) t [] h = absurd (omega arith)
+runs-front (suc n) t (x ∷ []) h = absurd (omega arith)
+runs-front (suc n) t (x ∷ (y ∷ [])) h = absurd (omega arith)
+runs-front (suc n) t (x ∷ (y ∷ (z ∷ l))) h =
+    let m = meant (command x y z) in
+    let d = answerNumber narrow t m in
+    runs-behind n 0 (lineTable narrow t m) l x d z
+    ∙ ap (λ (r : Table × List ℕ). (r .0, x ∷ d ∷ z ∷ r .1)) (runs-front n (lineTable narrow t m) l (omega arith))
+
+pub runs-all : (n : ℕ) (t : Table) (l : List ℕ) → n ≤ length l / 3 → runs (n - 0) (3 * 0) t l ≡ (ranTable t l n, ranIn t l n)
+unfolding ranTable ranIn
+runs-all n t l h =
+    let all : n - 0 ≡ n = omega arith in
+    rw (all, le-leb (3 * n) (length l) (omega arith)) (runs-front n t l (omega arith))
+
+pub runs-none : (n : ℕ) (t : Table) (l : List ℕ) → length l / 3 < n → (t ≡ ranTable t l n) × (l ≡ ranIn t l n)
+unfolding ranTable ranIn
+runs-none n t l h = let e = lt-leb (3 * n) (length l) (omega arith) in (rw e, rw e)
+
+-- ---- as many as are ready
+
+pub ready-fits : (size count : ℕ) → readyOf size count ≤ size / 3
+unfolding readyOf
+ready-fits size count = by (leb count (size / 3)) refl
+  where
+    by : (y : Bool) → leb count (size / 3) ≡ y → cond y count 0 ≤ size / 3
+    by true e = leb-true count (size / 3) e
+    by false e = omega arith
+
+-- a turn that `step` took
+pub runs-step : (count k : ℕ) (t u : Table) (l m : List ℕ) → k < count → k < length l / 3 → u ≡ lineTable narrow t (saidAt l k)
+    → m ≡ putAt l k (answerNumber narrow t (saidAt l k)) → runs (count - (k + 1)) (3 * (k + 1)) u m ≡ runs (count - k) (3 * k) t l
+unfolding callAt putAt
+runs-step count k t u l m h few left stored =
+    let e = lt-ltb k (length l / 3) few in
+    rw (stored, left, e) (runs-turn count k t _ l _ h refl refl)
+
+pub ready-all : (count : ℕ) (t : Table) (l : List ℕ)
+    → (readyOf (length l) count ≡ ranCount l count) × (runs (readyOf (length l) count - 0) (3 * 0) t l ≡ (ranTable t l count, ranIn t l count))
+unfolding readyOf ranCount
+ready-all count t l = by (leb count (length l / 3)) refl
+  where
+    by : (y : Bool) → leb count (length l / 3) ≡ y
+        → (cond y count 0 ≡ cond (leb (3 * count) (length l)) count 0) × (runs (cond y count 0 - 0) (3 * 0) t l ≡ (ranTable t l count, ranIn t l count))
+    by true e =
+        let h = leb-true count (length l / 3) e in
+        (rw (le-leb (3 * count) (length l) (omega arith)), runs-all count t l h)
+    by false e =
+        let h = leb-false count (length l / 3) e in
+        let none = runs-none count t l h in
+        (rw (lt-leb (3 * count) (length l) (omega arith)), runs-end 0 0 t l (omega arith) ∙ (λ i. (none .0 i, none .1 i)))

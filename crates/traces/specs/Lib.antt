@@ -1,0 +1,3 @@
+-- What the contracts cite. Inner is for private functions only.
+pub mod Serves
+pub mod Inner
