@@ -1,4 +1,2 @@
--- What the private functions do, on lists of words and on working names. The public contract cites none of it.
-pub mod Runs
-pub mod Passes
-pub mod Working
+-- What the private functions do. The public contract cites none of it.
+pub mod Buffers

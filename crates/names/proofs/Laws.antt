@@ -1,6 +1,6 @@
--- One element more, as a loop wants it: `any` and `all` of a list whose head is known, and the strings of a record from an index on. Assumes nothing.
-use mathlib.Core.Path.{_≡_, refl, sym, ap, _∙_}
-use mathlib.Core.Bool.{Bool, true, false}
+-- One element more, as a loop wants it: `all` of a list whose head is known, and the strings of a record from an index on. Assumes nothing.
+use mathlib.Core.Path.{_≡_, refl, ap, _∙_}
+use mathlib.Core.Bool.{Bool, true, false, _&&_}
 use mathlib.Core.List.{List, [], _∷_, map}
 use Prim.Native.Nat.{ℕ, zero, suc, _+_, _≤_, _<_, min}
 use native.Mathlib.Omega.{arith}
@@ -8,32 +8,20 @@ use native.Mathlib.Numerals.{add-one}
 use lib.ListN.{length, getD, take, drop, length-take, length-map, drop-of-length-le}
 use lib.Seq.{drop-cons, getD-take}
 use Rattle.rules.specs.Strings.{strOf}
-use Rattle.rules.specs.Names.{any, all}
+use Rattle.rules.specs.Names.{all}
 use Rattle.rules.specs.Stored.{strsIn}
 use Rattle.rules.specs.declared.Words.{Words}
 
--- the length of a field that is an array, as `good` gives it
-pub field-length : (ws : List ℕ) {n : ℕ} → length (map {A = ℕ} {B = ℕ} (λ v. v) ws) ≡ n → length ws ≡ n
-field-length ws e = sym (length-map ws (λ (v : ℕ). v)) ∙ e
-
 module _ {A : Type 0} (p : A → Bool) where
-  -- the head does not pass: the rest decides
-  pub any-more : {l m : List A} {x : A} → l ≡ x ∷ m → p x ≡ false → any p l ≡ any p m
-  unfolding any
-  any-more e h = ap (any p) e ∙ rw h
-
-  pub any-now : {l m : List A} {x : A} → l ≡ x ∷ m → p x ≡ true → any p l ≡ true
-  unfolding any
-  any-now e h = ap (any p) e ∙ rw h
-
-  pub any-end : {l : List A} → l ≡ [] → any p l ≡ false
-  unfolding any
-  any-end e = ap (any p) e
-
   -- the head passes: the rest decides
   pub all-more : {l m : List A} {x : A} → l ≡ x ∷ m → p x ≡ true → all p l ≡ all p m
   unfolding all
   all-more e h = ap (all p) e ∙ rw h
+
+  -- the head, and the rest
+  pub all-cons : {l m : List A} {x : A} → l ≡ x ∷ m → all p l ≡ (p x && all p m)
+  unfolding all
+  all-cons e = ap (all p) e
 
   pub all-stop : {l m : List A} {x : A} → l ≡ x ∷ m → p x ≡ false → all p l ≡ false
   unfolding all

@@ -8,7 +8,7 @@ use Prim.Native.Nat.{ℕ, zero, suc, _-_, _≤_, _<_}
 use native.Mathlib.Omega.{arith}
 use borrow.Author.Tests.{leb-true, leb-false, lt-leb, eq-eqb, ne-eqb}
 use lib.Dec.{eqb, leb, eqb·zero-suc, eqb·suc-zero}
-use lib.ListN.{length, replicate, length-map, length-drop, take-append-drop}
+use lib.ListN.{length, replicate, length-append, length-map, length-drop, length-replicate, take-append-drop}
 use Rattle.rules.specs.Limits.{Limits}
 use Rattle.rules.specs.Strings.{Str, less, wordOf, strOf, isWord}
 use Rattle.rules.specs.Names.{Name, all, rising, isName}
@@ -16,6 +16,8 @@ use Rattle.rules.specs.Stored.{wordsOf, strsIn, sameNumbers, sameWords, isStore
 use Rattle.rules.specs.declared.Words.{Words}
 use Rattle.names.proofs.Laws.{front, behind, front-length, strs-length}
 use Rattle.laws.proofs.Tests.{iff, and-left, and-right, and-both}
+use Rattle.laws.proofs.Lawful.{name-parts}
+use Rattle.laws.proofs.Stored.{stored-name, stored-name-is}
 use Rattle.laws.proofs.Rising.{less-trans, rising-head, rising-tail, rising-cons}
 
 -- ---- rising, from neighbours
@@ -145,3 +147,34 @@ module _ (L : Limits) (n : Words) (full : length (n .words) ≡ L .strings) wher
           let h = leb-false (n .count) (L .strings) e in
           beyond (n .count) (L .strings) (length (strsIn n)) (isName L (strsIn n)) (sameNumbers (n .words) (wordsOf L (strsIn n) .words))
           (all (isWord (L .digits)) (front n)) (rising (strsIn n)) (all (eqb 0) (behind n)) (omega (arith, strs-length n (L .strings) full)) h
+
+-- ---- what a stored name's words are
+
+module _ (L : Limits) (n : Words) (h : isStoredName L n ≡ true) where
+  -- a record has as many words as a name may have strings
+  pub stored-full : length (n .words) ≡ L .strings
+  unfolding wordsOf
+  stored-full =
+      let m = strsIn n in
+      let k = L .strings - length m in
+      omega (
+        arith,
+        ap (λ (w : Words). length (w .words)) (stored-name-is L n h),
+        length-append (map wordOf m) (replicate k 0),
+        length-map m wordOf,
+        length-replicate {A = ℕ} k 0,
+        name-parts L m (stored-name L n h) .few,
+      )
+
+  -- the words that it counts are words of strings
+  pub stored-words : all (isWord (L .digits)) (front n) ≡ true
+  stored-words =
+      let count = leb 1 (n .count) && leb (n .count) (L .strings) in
+      let words = all (isWord (L .digits)) (front n) in
+      let rises = rising (strsIn n) in
+      let e = and-left (count && words && rises) (all (eqb 0) (behind n)) (sym (stored-test L n stored-full) ∙ h) in
+      and-right count words (and-left (count && words) rises e)
+
+  -- these rise
+  pub stored-rising : rising (strsIn n) ≡ true
+  stored-rising = name-parts L (strsIn n) (stored-name L n h) .rises

@@ -1,5 +1,4 @@
--- What several proofs cite: fields of bits as numbers, the bits behind a position, how long strings and names are written,
--- and bits that are put behind bits. Assumes nothing.
+-- What several proofs cite: fields of bits as numbers, the bits behind a position, and how long strings and names are written. Assumes nothing.
 use mathlib.Core.Path.{_≡_, refl, sym, ap, ap₂, _∙_}
 use mathlib.Core.Bool.{Bool, true, false, not}
 use mathlib.Core.List.{List, [], _∷_, _++_, append-assoc, append-nil}
@@ -13,20 +12,20 @@ use lib.Pow.{pow-pos, pow-add, shl-exact, high, low}
 use lib.ListN.{length, getD, drop, length-append, length-drop}
 use lib.Seq.{drop-drop}
 use Rattle.rules.specs.Limits.{narrow, bytesFor}
-use Rattle.rules.specs.Strings.{Str, field, valueFrom, value, strOf}
+use Rattle.rules.specs.Strings.{Str, field, valueFrom, value}
 use Rattle.rules.specs.Names.{Name, any, all, isName}
 use Rattle.rules.specs.Stamps.{Stamp}
 use Rattle.rules.specs.Stored.{strsIn, held}
-use Rattle.rules.specs.Packed.{stringBits, stringsBits, nameBits, stampBits, packed, bitsOf, takeString, takeName, isFilling}
-use Rattle.rules.specs.declared.Words.{Words}
+use Rattle.rules.specs.Packed.{stringBits, stringsBits, nameBits, stampBits, packed, isFilling, bitsOf, takeString, takeName}
 use Rattle.rules.specs.declared.Record.{Record}
+use Rattle.rules.specs.declared.Words.{Words}
 use Rattle.laws.proofs.Tests.{and-both}
 use Rattle.laws.proofs.Bits.{field-length, value-shift}
 use Rattle.laws.proofs.Words.{field-low, field-split}
-use Rattle.layout.proofs.Bytes.{areBytes, bits-length}
+use Rattle.layout.proofs.Bytes.{areBytes}
 use Rattle.layout.proofs.Names.{allShort, named, short-head, short-tail}
 use Rattle.layout.proofs.Sizes.{packed-length}
-use Rattle.packed.specs.Cursors.{StringAt, NameAt, written, Put}
+use Rattle.packed.specs.Cursors.{written, Put}
 use Rattle.packed.specs.declared.Pen.{Pen}
 
 -- ---- numbers and their fields
@@ -48,25 +47,6 @@ field-join d k a v h =
     ∙ ap₂ (λ (s t : List Bool). s ++ t) (ap (field d) (high a k h)) (sym (field-low k (a * 2 ^ k + v)) ∙ ap (field k) (low a k h))
 
 -- ---- reading
-
--- the bits behind a position
-pub room-is : (b : List ℕ) (pos : ℕ) → length (drop pos (bitsOf b)) ≡ length b * 8 - pos
-room-is b pos = length-drop pos (bitsOf b) ∙ ap (λ (n : ℕ). n - pos) (bits-length b)
-
--- what a reader's answer tells
-module _ {b : List ℕ} {pos next word : ℕ} {ok : Bool} (s : StringAt b pos ok next word) where
-  pub string-found : ok ≡ true → takeString narrow (drop pos (bitsOf b)) ≡ some (strOf word, drop next (bitsOf b))
-  string-found h = rw h at (s .reads)
-
-  pub string-missing : ok ≡ false → takeString narrow (drop pos (bitsOf b)) ≡ none
-  string-missing h = rw h at (s .reads)
-
-module _ {b : List ℕ} {pos next : ℕ} {name : Words} {ok : Bool} (s : NameAt b pos ok next name) where
-  pub name-found : ok ≡ true → takeName narrow (drop pos (bitsOf b)) ≡ some (strsIn name, drop next (bitsOf b))
-  name-found h = rw h at (s .reads)
-
-  pub name-missing : ok ≡ false → takeName narrow (drop pos (bitsOf b)) ≡ none
-  name-missing h = rw h at (s .reads)
 
 -- bits are all zero exactly when the number that they say is
 zero-bits : (s : List Bool) → eqb (value s) 0 ≡ not (any (λ (x : Bool). x) s)
@@ -103,12 +83,7 @@ pub stamp-length : (s : Stamp) → length (packed narrow s) ≡ bytesFor (length
 unfolding stampBits
 stamp-length s = packed-length narrow s ∙ ap bytesFor (length-append (nameBits narrow (s .update)) (nameBits narrow (s .id)))
 
-pub record-length : (r : Record)
-    → length (packed narrow (held r)) ≡ bytesFor (length (nameBits narrow (strsIn (r .update))) + length (nameBits narrow (strsIn (r .id))))
-unfolding held
-record-length r = stamp-length (held r)
-
-strings-most : (n : Name) → allShort narrow n ≡ true → length (stringsBits narrow n) ≤ length n * 29
+pub strings-most : (n : Name) → allShort narrow n ≡ true → length (stringsBits narrow n) ≤ length n * 29
 unfolding stringsBits
 strings-most [] h = omega arith
 strings-most (s ∷ n) h = omega (arith, strings-length s n, short-head narrow s n h, strings-most n (short-tail narrow s n h))
@@ -118,25 +93,3 @@ pub name-most : (n : Name) → isName narrow n ≡ true → length (nameBits nar
 name-most n h =
     let i = named narrow n h in
     omega (arith, name-length n, strings-most n (i .short), i .few)
-
--- ---- bits behind bits
-
--- where two lists agree they agree further on
-drop-on : (i j : ℕ) (l m : List ℕ) → i ≤ j → drop i l ≡ drop i m → drop j l ≡ drop j m
-drop-on i j l m h e =
-    let on : i + (j - i) ≡ j = omega arith in
-    ap (λ (k : ℕ). drop k l) (sym on) ∙ sym (drop-drop (j - i) i l) ∙ ap (drop (j - i)) e ∙ drop-drop (j - i) i m ∙ ap (λ (k : ℕ). drop k m) on
-
-pub put-none : (p : Pen) (l : List ℕ) → p .held < 8 → p .acc < 2 ^ p .held → Put p l [] p l
-put-none p l few small = record { bits = sym (append-nil (written p l)); kept = refl; few = few; small = small; moved = omega arith }
-
-pub put-on : (p : Pen) (l : List ℕ) (a : List Bool) (q : Pen) (m : List ℕ) (b : List Bool) (r : Pen) (n : List ℕ)
-    → Put p l a q m → Put q m b r n → Put p l (a ++ b) r n
-put-on p l a q m b r n s t =
-    record {
-      bits = t .bits ∙ ap (λ (x : List Bool). x ++ b) (s .bits) ∙ append-assoc (written p l) a b;
-      kept = t .kept ∙ drop-on (q .at) (r .at) m l (omega (arith, t .moved, t .few)) (s .kept);
-      few = t .few;
-      small = t .small;
-      moved = t .moved ∙ omega (arith, s .moved, length-append a b);
-    }

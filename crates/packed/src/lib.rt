@@ -1,14 +1,23 @@
 // One packed stamp: read from bytes of any content, and written into a lent buffer.
+mod reading;
+
 ghost use mathlib.Core.Path.{_≡_};
 ghost use mathlib.Core.Bool.{true, false, cond};
-ghost use Prim.Native.Nat.{_≤_, _<_, _+_, _*_, _-_, _^_, min};
+ghost use Prim.Native.Nat.{_≤_, _<_, _+_, _-_, _^_, _*_, _%_, min};
 ghost use lib.ListN.{length, take, drop, replicate};
 ghost use Rattle.rules.specs.Limits.{narrow};
-ghost use Rattle.rules.specs.Strings.{value, field, strOf};
-ghost use Rattle.rules.specs.Stored.{strsIn, held, blank, isStoredName, isStored};
-ghost use Rattle.rules.specs.Packed.{bitsOf, stringBits, nameBits, packed, over, isFilling, readStamp, writtenStamp};
+ghost use Rattle.rules.specs.Strings.{field, strOf, value};
+ghost use Rattle.rules.specs.Stored.{strsIn, held, isStoredName, isStored, blank};
+ghost use Rattle.rules.specs.Stamps.{lawful};
+ghost use Rattle.rules.specs.Packed.{stringBits, nameBits, packed, over, readStamp, writtenStamp, bitsOf, stringsBits, packBits, isFilling};
 ghost use Rattle.rules.specs.declared.Answer.the-variants.{Refused};
-ghost use Rattle.packed.specs.Cursors.{StringAt, NameAt, Ready, Put};
+ghost use Rattle.packed.specs.Cursors.{Ready, Put, written};
+ghost use Rattle.packed.specs.Reading.{countsOf, lentTo, AreNames, toldBy};
+use reading::names_in;
+ghost use mathlib.Core.List.{_++_, map};
+ghost use Rattle.layout.proofs.Bytes.{areBytes};
+ghost use Rattle.packed.specs.Fits.{told, allFit, fitsName, fits, writtenNames};
+use names::STRINGS;
 use rules::Answer;
 use rules::Given;
 use rules::Record;
@@ -16,8 +25,8 @@ use rules::Refusal;
 use rules::Words;
 use rules::Written;
 use stamps::is_lawful;
-use strings::DIGITS;
-use strings::comes_before;
+use walks::has_twins;
+use walks::is_below;
 
 // A packed stamp has at most so many bytes.
 pub const BYTES: usize = 117;
@@ -28,33 +37,56 @@ const COUNT_BITS: usize = 4;
 // Bits of a string's length.
 const LENGTH_BITS: usize = 5;
 
+// What reading leaves beside the words: the answer, and how many strings each name has; both 0 where it is refused.
+pub struct Counts {
+    pub answer: Answer,
+    pub update: usize,
+    pub id: usize,
+}
+
 // The stamp that b packs: refused 1 where the layout does not read, 2 where the stamp is not lawful; then all zeros.
 pub fn read(b: &[u8]) -> Given
     ensures { λ g. ⌜ g ≡ readStamp narrow (now (b .entry)) ⌝ }
 {
-    if BYTES < b.len() {
-        return refused(Refusal::Malformed);
-    }
-    let u = name_at(b, 0);
-    if !u.ok {
-        return refused(Refusal::Malformed);
-    }
-    let i = name_at(b, u.next);
-    if !i.ok {
-        return refused(Refusal::Malformed);
-    }
-    if !is_filling(b, i.next) {
-        return refused(Refusal::Malformed);
-    }
-    let update = u.name;
-    let id = i.name;
+    let mut u = [0; 16];
+    let mut i = [0; 16];
+    let c = read_in(b, &mut u, &mut i);
+    let answer = c.answer;
+    let update = Words {
+        count: c.update,
+        words: u,
+    };
+    let id = Words {
+        count: c.id,
+        words: i,
+    };
     let stamp = Record { update, id };
-    if !is_lawful(stamp) {
-        return refused(Refusal::Unlawful);
+    Given { answer, stamp }
+}
+
+// The same into lent words: each name's at the front, and the rest kept; where it is refused, nothing is written.
+pub fn read_in(b: &[u8], update: &mut [u64; 16], id: &mut [u64; 16]) -> Counts
+    ensures { λ r. ⌜ (r ≡ countsOf (readStamp narrow (now (b .entry))))
+        × (now (update .exit) ≡ lentTo (readStamp narrow (now (b .entry)) .stamp .update) (now (update .entry)))
+        × (now (id .exit) ≡ lentTo (readStamp narrow (now (b .entry)) .stamp .id) (now (id .entry))) ⌝ }
+{
+    let mut u = [0; 16];
+    let mut i = [0; 16];
+    let names = names_in(b, &mut u, &mut i);
+    if !names.ok {
+        return unread(Refusal::Malformed);
     }
-    Given {
+    let m = names.update;
+    let n = names.id;
+    if !is_lawful_read(&u[..m], &i[..n]) {
+        return unread(Refusal::Unlawful);
+    }
+    lend(&u[..m], update);
+    lend(&i[..n], id);
+    Counts {
         answer: Answer::Done,
-        stamp,
+        update: m,
+        id: n,
     }
 }
 
@@ -62,292 +94,213 @@ pub fn read(b: &[u8]) -> Given
 pub fn write(r: Record, out: &mut [u8]) -> Written
     ensures { λ w. ⌜ (w ≡ writtenStamp narrow r (now (out .entry)) .answer) × (now (out .exit) ≡ writtenStamp narrow r (now (out .entry)) .out) ⌝ }
 {
-    if !is_lawful(r) {
-        return Written::Refused(Refusal::Unlawful);
+    if is_lawful(r) {
+        let u = r.update.words;
+        let i = r.id.words;
+        let c = r.update.count;
+        let d = r.id.count;
+        return write_from(&u[..c], &i[..d], out);
     }
-    let n = bytes_of(r);
-    if out.len() < n {
-        return Written::Refused(Refusal::Short);
-    }
-    put_stamp(out, r);
-    Written::Bytes(n)
+    Written::Refused(Refusal::Unlawful)
 }
 
 // How many bytes r packs to; 0 where r is unlawful.
 pub fn size(r: Record) -> usize
     ensures { λ n. ⌜ n ≡ cond (isStored narrow r) (length (packed narrow (held r))) 0 ⌝ }
 {
-    if !is_lawful(r) {
+    if is_lawful(r) {
+        let u = r.update.words;
+        let i = r.id.words;
+        let c = r.update.count;
+        let d = r.id.count;
+        return size_of(&u[..c], &i[..d]);
+    }
+    0
+}
+
+// The bytes of two names in words at the front of out, and the rest kept: refused 2 where they cannot be laid out, 10 where out is too short; then
+// nothing is written.
+pub fn write_from(update: &[u64], id: &[u64], out: &mut [u8]) -> Written
+    ensures { λ w. ⌜ (w ≡ writtenNames narrow (now (update .entry)) (now (id .entry)) (now (out .entry)) .answer) × (now (out .exit) ≡ writtenNames narrow (now (update .entry)) (now (id .entry)) (now (out .entry)) .out) ⌝ }
+{
+    let n = size_of(update, id);
+    if n == 0 {
+        return Written::Refused(Refusal::Unlawful);
+    }
+    if out.len() < n {
+        return Written::Refused(Refusal::Short);
+    }
+    put_stamp(out, update, id);
+    Written::Bytes(n)
+}
+
+// How many bytes two names in words take; 0 where they cannot be laid out.
+pub fn size_of(update: &[u64], id: &[u64]) -> usize
+    ensures { λ n. ⌜ n ≡ cond (fits narrow (now (update .entry)) (now (id .entry))) (length (packed narrow (told (now (update .entry)) (now (id .entry))))) 0 ⌝ }
+{
+    let u = bits_of(update);
+    let i = bits_of(id);
+    if u == 0 {
         return 0;
     }
-    bytes_of(r)
+    if i == 0 {
+        return 0;
+    }
+    (u + i + 7) / 8
 }
 
-// ---- reading: from a bit of the bytes to the bit behind what was read
+// ---- reading
 
-// A string that was read: its word, and the bit behind it.
-struct OneString {
-    ok: bool,
-    next: usize,
-    word: u64,
-}
-
-// A name that was read, and the bit behind it.
-struct OneName {
-    ok: bool,
-    next: usize,
-    name: Words,
-}
-
-// No stamp, and why.
-fn refused(why: Refusal) -> Given
-    ensures { λ g. ⌜ g ≡ record { answer = Refused why; stamp = blank narrow } ⌝ }
+// No strings, and why.
+fn unread(why: Refusal) -> Counts
+    ensures { λ c. ⌜ c ≡ record { answer = Refused why; update = 0; id = 0 } ⌝ }
 {
-    let words = [0; 16];
-    let none = Words { count: 0, words };
-    let stamp = Record {
-        update: none,
-        id: none,
-    };
-    Given {
+    Counts {
         answer: Answer::Refused(why),
-        stamp,
+        update: 0,
+        id: 0,
     }
 }
 
-// The name that begins at bit pos: each string after the one before it.
-fn name_at(b: &[u8], pos: usize) -> OneName
-    requires { ⌜ (length (now b) ≤ 117) × (pos ≤ length (now b) * 8) ⌝ }
-    ensures { λ r. ⌜ NameAt (now (b .entry)) pos (r .ok) (r .next) (r .name) ⌝ }
+// Whether two names that were read, an update and an id, are a lawful stamp.
+fn is_lawful_read(u: &[u64], i: &[u64]) -> bool
+    requires { ⌜ AreNames (now u) (now i) ⌝ }
+    ensures { λ r. ⌜ r ≡ lawful narrow (toldBy (now (u .entry)) (now (i .entry))) ⌝ }
 {
-    if b.len() * 8 - pos < COUNT_BITS {
-        return no_name();
-    }
-    let more = bits_at(b, pos, COUNT_BITS) as usize;
-    let s = string_at(b, pos + COUNT_BITS);
-    if !s.ok {
-        return no_name();
-    }
-    let mut last = s.word;
-    let mut next = s.next;
-    let mut words = [0; 16];
-    words[0] = last;
-    let mut count = 1;
-    while count <= more {
-        let t = string_at(b, next);
-        if !t.ok {
-            return no_name();
-        }
-        if !comes_before(last, t.word) {
-            return no_name();
-        }
-        last = t.word;
-        next = t.next;
-        words[count] = last;
-        count += 1;
-    }
-    let name = Words { count, words };
-    OneName {
-        ok: true,
-        next,
-        name,
-    }
-}
-
-// No name reads.
-fn no_name() -> OneName
-    ensures { λ r. ⌜ r ≡ record { ok = false; next = 0; name = record { count = 0; words = replicate 16 0 } } ⌝ }
-{
-    let words = [0; 16];
-    let name = Words { count: 0, words };
-    OneName {
-        ok: false,
-        next: 0,
-        name,
-    }
-}
-
-// The string that begins at bit pos: its length, then its digits.
-fn string_at(b: &[u8], pos: usize) -> OneString
-    requires { ⌜ (length (now b) ≤ 117) × (pos ≤ length (now b) * 8) ⌝ }
-    ensures { λ r. ⌜ StringAt (now (b .entry)) pos (r .ok) (r .next) (r .word) ⌝ }
-{
-    let none = OneString {
-        ok: false,
-        next: 0,
-        word: 0,
-    };
-    let room = b.len() * 8 - pos;
-    if room < LENGTH_BITS {
-        return none;
-    }
-    let n = bits_at(b, pos, LENGTH_BITS);
-    if DIGITS < n {
-        return none;
-    }
-    let w = n as usize;
-    if room < w + LENGTH_BITS {
-        return none;
-    }
-    let at = pos + LENGTH_BITS;
-    let v = bits_at(b, at, w);
-    let s = word(v, n);
-    let end = at + w;
-    OneString {
-        ok: true,
-        next: end,
-        word: s,
-    }
-}
-
-// The word of the string of n digits that v says: moved to the top, and the length.
-fn word(v: u64, n: u64) -> u64
-    requires { ⌜ (n ≤ 24) × (v < 2 ^ n) ⌝ }
-    ensures { λ r. ⌜ r ≡ v * 2 ^ (64 - n) + n ⌝ }
-{
-    let top = v << 40;
-    (top << (24 - n)) + n
-}
-
-// Whether the bits from pos on are a filling: fewer than a byte has, and all zero.
-fn is_filling(b: &[u8], pos: usize) -> bool
-    requires { ⌜ (length (now b) ≤ 117) × (pos ≤ length (now b) * 8) ⌝ }
-    ensures { λ r. ⌜ r ≡ isFilling (drop pos (bitsOf (now (b .entry)))) ⌝ }
-{
-    let left = b.len() * 8 - pos;
-    if left < 8 {
-        return bits_at(b, pos, left) == 0;
+    if is_below(u, i) {
+        return !has_twins(i);
     }
     false
 }
 
-// The w bits from bit pos on, as a number; each turn takes what one byte has of them.
-fn bits_at(b: &[u8], pos: usize, w: usize) -> u64
-    requires { ⌜ (w ≤ 24) × (length (now b) ≤ 117) × (pos + w ≤ length (now b) * 8) ⌝ }
-    ensures { λ r. ⌜ r ≡ value (take w (drop pos (bitsOf (now (b .entry))))) ⌝ }
+// The words of from, at the front of to.
+fn lend(from: &[u64], to: &mut [u64])
+    requires { ⌜ length (now from) ≤ length (now to) ⌝ }
+    ensures { λ _. ⌜ now (to .exit) ≡ over (now (from .entry)) (now (to .entry)) ⌝ }
 {
-    let one: u64 = 1;
-    let mut acc: u64 = 0;
-    let mut at = pos;
-    let mut left = w;
-    while 0 < left {
-        let room = 8 - at % 8;
-        let k = least(room, left);
-        let x = wide(b[at / 8]) >> (room - k);
-        let y = x % (one << k);
-        acc = (acc << k) + y;
-        at += k;
-        left -= k;
+    let mut k = 0;
+    while k < from.len() {
+        to[k] = from[k];
+        k += 1;
     }
-    acc
-}
-
-// The lesser of a and b.
-fn least(a: usize, b: usize) -> usize
-    ensures { λ r. ⌜ r ≡ min a b ⌝ }
-{
-    if a < b {
-        return a;
-    }
-    b
-}
-
-// A byte as a word.
-fn wide(x: u8) -> u64
-    ensures { λ r. ⌜ r ≡ x ⌝ }
-{
-    x as u64
 }
 
 // ---- writing: behind what is written, into the buffer itself
 
-// Where a writer stands: so many bytes are written, and behind them come `held` bits that say `acc`.
+// Where a writer stands: so many bytes are written, and behind them come the `held` low bits of `acc`.
 struct Pen {
     at: usize,
     held: usize,
     acc: u64,
 }
 
-// How many bytes the stamp r takes.
-fn bytes_of(r: Record) -> usize
-    requires { ⌜ isStored narrow r ≡ true ⌝ }
-    ensures { λ n. ⌜ n ≡ length (packed narrow (held r)) ⌝ }
+// How many bits the name of these words takes: its count, and each string behind its length; 0 where it cannot be laid out.
+fn bits_of(n: &[u64]) -> usize
+    ensures { λ r. ⌜ r ≡ cond (fitsName narrow (now (n .entry))) (length (nameBits narrow (map strOf (now (n .entry))))) 0 ⌝ }
 {
-    let u = bits_of(r.update);
-    let i = bits_of(r.id);
-    (u + i + 7) / 8
-}
-
-// How many bits the name n takes: its count, and each string behind its length.
-fn bits_of(n: Words) -> usize
-    requires { ⌜ isStoredName narrow n ≡ true ⌝ }
-    ensures { λ r. ⌜ r ≡ length (nameBits narrow (strsIn n)) ⌝ }
-{
-    let c = n.count;
-    let mut sum = COUNT_BITS;
+    let c = n.len();
+    if c == 0 {
+        return 0;
+    }
+    if STRINGS < c {
+        return 0;
+    }
+    let mut sum = COUNT_BITS + LENGTH_BITS * c;
+    let mut long = 0;
     let mut i = 0;
     while i < c {
-        sum += LENGTH_BITS + (n.words[i] % 64) as usize;
+        let k = (n[i] % 64) as usize;
+        // 1 where k is above 24
+        long += (k + 39) / 64;
+        sum += k;
         i += 1;
+    }
+    if 0 < long {
+        return 0;
     }
     sum
 }
 
-// The stamp r at the front of out: both names, and zeros up to a whole byte.
-fn put_stamp(out: &mut [u8], r: Record)
-    requires { ⌜ (isStored narrow r ≡ true) × (length (packed narrow (held r)) ≤ length (now out)) ⌝ }
-    ensures { λ _. ⌜ now (out .exit) ≡ over (packed narrow (held r)) (now (out .entry)) ⌝ }
+// Both names at the front of out, and zeros up to a whole byte.
+fn put_stamp(out: &mut [u8], update: &[u64], id: &[u64])
+    requires { ⌜ (fits narrow (now update) (now id) ≡ true) × (length (packed narrow (told (now update) (now id))) ≤ length (now out)) ⌝ }
+    ensures { λ _. ⌜ now (out .exit) ≡ over (packed narrow (told (now (update .entry)) (now (id .entry)))) (now (out .entry)) ⌝ }
 {
+    let c = (update.len() - 1) as u64;
+    let d = (id.len() - 1) as u64;
     let start = Pen {
         at: 0,
-        held: 0,
-        acc: 0,
+        held: COUNT_BITS,
+        acc: c,
     };
-    let u = put_name(out, start, r.update);
-    let i = put_name(out, u, r.id);
-    let left = (8 - i.held) % 8;
-    put(out, i, left, 0);
+    let u = put_strings(out, start, update);
+    let held = u.held + COUNT_BITS;
+    let acc = (u.acc << COUNT_BITS) + d;
+    let next = Pen {
+        at: u.at,
+        held,
+        acc,
+    };
+    let i = put_strings(out, next, id);
+    put_rest(out, i);
 }
 
-// The name n, behind what is written: its count less one, then each string.
-fn put_name(out: &mut [u8], p: Pen, n: Words) -> Pen
-    requires { ⌜ (isStoredName narrow n ≡ true) × Ready p (length (now out)) (length (nameBits narrow (strsIn n))) ⌝ }
-    ensures { λ q. ⌜ Put p (now (out .entry)) (nameBits narrow (strsIn n)) q (now (out .exit)) ⌝ }
+// The strings of these words, behind what is written: each is its length and its digits. Four bytes go out where so many bits are held.
+fn put_strings(out: &mut [u8], p: Pen, n: &[u64]) -> Pen
+    requires { ⌜ (allFit narrow (now n) ≡ true) × Ready p (length (now out)) (length (stringsBits narrow (map strOf (now n)))) ⌝ }
+    ensures { λ q. ⌜ Put p (now (out .entry)) (stringsBits narrow (map strOf (now (n .entry)))) q (now (out .exit)) ⌝ }
 {
-    let c = n.count;
-    let mut q = put(out, p, COUNT_BITS, (c - 1) as u64);
+    let c = n.len();
+    let mut at = p.at;
+    let mut held = p.held;
+    let mut acc = p.acc;
     let mut i = 0;
     while i < c {
-        q = put_string(out, q, n.words[i]);
+        let s = n[i];
+        let w = s % 64 + 5;
+        acc = (acc << w) + string_bits(s);
+        held += w as usize;
+        if 32 <= held {
+            held -= 32;
+            put_four(out, at, acc >> held);
+            at += 4;
+        }
         i += 1;
     }
-    q
+    Pen { at, held, acc }
 }
 
-// The string of the word s, behind what is written: its length, then its digits.
-fn put_string(out: &mut [u8], p: Pen, s: u64) -> Pen
-    requires { ⌜ (length (strOf s) ≤ 24) × Ready p (length (now out)) (length (stringBits narrow (strOf s))) ⌝ }
-    ensures { λ q. ⌜ Put p (now (out .entry)) (stringBits narrow (strOf s)) q (now (out .exit)) ⌝ }
+// The bits of the string of the word s as a number: its length, then its digits. The word is turned until its six low bits stand before the digits.
+fn string_bits(s: u64) -> u64
+    requires { ⌜ s % 64 ≤ 24 ⌝ }
+    ensures { λ v. ⌜ (v < 2 ^ (s % 64 + 5)) × (field (s % 64 + 5) v ≡ stringBits narrow (strOf s)) ⌝ }
 {
-    let n = s % 64;
-    let digits = (s >> 40) >> (24 - n);
-    put(out, p, LENGTH_BITS + n as usize, (n << n) + digits)
+    let turned = (s << 58) + (s >> 6);
+    turned >> (58 - s % 64)
 }
 
-// The w bits that v says, behind what is written; whole bytes go out.
-fn put(out: &mut [u8], p: Pen, w: usize, v: u64) -> Pen
-    requires { ⌜ (w ≤ 32) × (v < 2 ^ w) × Ready p (length (now out)) w ⌝ }
-    ensures { λ q. ⌜ Put p (now (out .entry)) (field w v) q (now (out .exit)) ⌝ }
+// The four low bytes of v, from byte at on.
+fn put_four(out: &mut [u8], at: usize, v: u64)
+    requires { ⌜ at + 4 ≤ length (now out) ⌝ }
+    ensures { λ _. ⌜ (bitsOf (take (at + 4) (now (out .exit))) ≡ bitsOf (take at (now (out .entry))) ++ field 32 v) × (drop (at + 4) (now (out .exit)) ≡ drop (at + 4) (now (out .entry))) ⌝ }
 {
-    let one: u64 = 1;
+    out[at] = ((v >> 24) % 256) as u8;
+    out[at + 1] = ((v >> 16) % 256) as u8;
+    out[at + 2] = ((v >> 8) % 256) as u8;
+    out[at + 3] = (v % 256) as u8;
+}
+
+// The bits that are held, and zeros up to a whole byte: moved to the top of the word, where each byte goes out.
+fn put_rest(out: &mut [u8], p: Pen)
+    requires { ⌜ (areBytes (now out) ≡ true) × Ready p (length (now out)) 0 ⌝ }
+    ensures { λ _. ⌜ now (out .exit) ≡ over (packBits (written p (now (out .entry)))) (now (out .entry)) ⌝ }
+{
+    let end = p.at + (p.held + 7) / 8;
+    let mut rest = (p.acc << 24) << (40 - p.held);
     let mut at = p.at;
-    let mut held = p.held + w;
-    let mut acc = (p.acc << w) + v;
-    while 8 <= held {
-        held -= 8;
-        out[at] = (acc >> held) as u8;
-        acc = acc % (one << held);
+    while at < end {
+        out[at] = ((rest >> 56) % 256) as u8;
+        rest = rest << 8;
         at += 1;
     }
-    Pen { at, held, acc }
 }

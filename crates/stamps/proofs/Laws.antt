@@ -1,31 +1,36 @@
--- A stored record in the parts that the code asks for, one after the other; and a name with a digit appended to each string, word by word.
+-- A stored record in the parts that the code asks for, one after the other; what the walks tell of lent words that are a stored name's; and a name
+-- with a digit appended to each string, word by word.
 -- Assumes nothing.
 use mathlib.Core.Path.{_≡_, refl, sym, ap, ap₂, _∙_}
-use mathlib.Core.Bool.{Bool, true, false, _&&_}
+use mathlib.Core.Bool.{Bool, true, false, not, _&&_}
 use mathlib.Core.List.{List, [], _∷_, _++_, map}
 use mathlib.Core.Logic.{inl, inr}
 use Prim.Native.Nat.{ℕ, zero, suc, _+_, _*_, _-_, _%_, _^_, _≤_, _<_}
 use native.Mathlib.Numerals.{add-one}
 use native.Mathlib.Omega.{arith}
 use lib.Dec.{eqb}
-use lib.ListN.{length, getD, drop, set, replicate, length-append, length-map, length-replicate}
+use lib.ListN.{length, getD, take, drop, set, replicate, length-map, length-replicate}
 use borrow.Author.Tests.{eqb-false}
-use Rattle.rules.specs.Limits.{Limits}
-use Rattle.rules.specs.Strings.{Str, _▹_, digit, wordOf, strOf}
-use Rattle.rules.specs.Names.{Name, any, isName, below}
+use Rattle.rules.specs.Limits.{Limits, narrow}
+use Rattle.rules.specs.Strings.{Str, _▹_, digit, wordOf, strOf, isWord}
+use Rattle.rules.specs.Names.{Name, any, all, rising, isName, below}
 use Rattle.rules.specs.Stamps.{pair, isNone, lawful, append}
 use Rattle.rules.specs.Stored.{wordsOf, stored, strsIn, held, sameWords, sameRecord, isStoredName, isStored}
+use Rattle.rules.specs.Refusals.{touches, unknownTo}
 use Rattle.rules.specs.declared.Words.{Words}
 use Rattle.rules.specs.declared.Record.{Record}
 use Rattle.laws.proofs.Tests.{and-left, and-right, In, any-none}
 use Rattle.laws.proofs.Bits.{digit-eqb}
-use Rattle.laws.proofs.Pairs.{firstTwins, neighbour-pair}
 use Rattle.laws.proofs.Words.{word-length, word-lt, word-grown}
 use Rattle.laws.proofs.Shares.{grown-length}
 use Rattle.laws.proofs.Fork.{append-length}
-use Rattle.laws.proofs.Lawful.{Named, name-parts}
+use Rattle.laws.proofs.Lawful.{name-parts}
 use Rattle.laws.proofs.Stored.{stored-name, stored-name-is}
+use Rattle.walks.specs.Walks.{strs, belowWalk, touchWalk, unknownWalk, hasTwins, isLong}
+use Rattle.walks.proofs.Tells.{below-walk, touch-walk, unknown-walk, twins, long}
 use Rattle.names.proofs.Laws.{strs-cons, strs-end}
+use Rattle.names.proofs.Shape.{stored-full, stored-words, stored-rising}
+use Rattle.stamps.specs.Lent.{name, Named}
 
 -- ---- a stored record
 
@@ -64,7 +69,7 @@ module _ (L : Limits) (r : Record) where
 -- ---- a stored name
 
 module _ (L : Limits) (n : Words) (h : isStoredName L n ≡ true) where
-  named : Named L (strsIn n)
+  named : Rattle.laws.proofs.Lawful.Named L (strsIn n)
   named = name-parts L (strsIn n) (stored-name L n h)
 
   pub stored-count : n .count ≡ length (strsIn n)
@@ -78,11 +83,6 @@ module _ (L : Limits) (n : Words) (h : isStoredName L n ≡ true) where
   unfolding wordsOf
   words-are = ap (λ (w : Words). w .words) (stored-name-is L n h)
 
-  pub stored-full : length (n .words) ≡ L .strings
-  stored-full =
-      let k = L .strings - length (strsIn n) in
-      omega (arith, ap length words-are, length-append (map wordOf (strsIn n)) zeros, length-map (strsIn n) wordOf, length-replicate {A = ℕ} k 0, named .few)
-
   pub stored-filled : 1 ≤ n .count
   stored-filled = omega (arith, stored-count, named .filled)
 
@@ -91,22 +91,57 @@ module _ (L : Limits) (n : Words) (h : isStoredName L n ≡ true) where
 
   -- the strings from i on: the one at i, and those from i + 1 on
   pub stored-cons : (i : ℕ) → i < n .count → drop i (strsIn n) ≡ strOf (getD (n .words) i 0) ∷ drop (i + 1) (strsIn n)
-  stored-cons i l = strs-cons n (L .strings) stored-full i (omega (arith, stored-few))
+  stored-cons i l = strs-cons n (L .strings) (stored-full L n h) i (omega (arith, stored-few))
 
   pub stored-end : (i : ℕ) → n .count ≤ i → drop i (strsIn n) ≡ []
-  stored-end i l = strs-end n (L .strings) stored-full i (omega (arith, stored-few))
+  stored-end i l = strs-end n (L .strings) (stored-full L n h) i (omega (arith, stored-few))
 
-  -- what `pair` finds is found among neighbours, from the first string on
-  pub stored-pair : firstTwins (strOf (getD (n .words) 0 0) ∷ drop 1 (strsIn n)) ≡ pair (strsIn n)
-  stored-pair = ap firstTwins (sym (stored-cons 0 stored-filled)) ∙ sym (neighbour-pair (strsIn n) (named .rises))
+-- ---- the walks over lent words
+
+module _ (c : ℕ) (w : List ℕ) (h : Named c w) where
+  pub lent-room : c ≤ length w
+  lent-room = omega (arith, stored-few narrow (name c w) h, stored-full narrow (name c w) h)
+
+  lent-words : all (isWord (narrow .digits)) (take c w) ≡ true
+  lent-words = stored-words narrow (name c w) h
+
+  lent-rising : rising (strs (take c w)) ≡ true
+  unfolding strsIn
+  lent-rising = stored-rising narrow (name c w) h
+
+  pub lent-twins : hasTwins (take c w) ≡ not (isNone (pair (strsIn (name c w))))
+  unfolding strsIn
+  lent-twins = twins (take c w) lent-rising
+
+pub lent-long : (c : ℕ) (w : List ℕ) → isLong (take c w) ≡ any (λ t. eqb (length t) (narrow .digits)) (strsIn (name c w))
+unfolding strsIn
+lent-long c w = long (take c w)
+
+module _ (mc : ℕ) (m : List ℕ) (nc : ℕ) (n : List ℕ) (h : Named mc m) (k : Named nc n) where
+  pub lent-below : belowWalk (take mc m) (take nc n) ≡ below (strsIn (name mc m)) (strsIn (name nc n))
+  unfolding strsIn
+  lent-below =
+      below-walk (narrow .digits) (omega arith) (take mc m) (take nc n) (lent-words mc m h) (lent-words nc n k) (lent-rising mc m h) (lent-rising nc n k)
+
+  pub lent-touch : touchWalk (take mc m) (take nc n) ≡ touches (strsIn (name mc m)) (strsIn (name nc n))
+  unfolding strsIn
+  lent-touch =
+      touch-walk (narrow .digits) (omega arith) (take mc m) (take nc n) (lent-words mc m h) (lent-words nc n k) (lent-rising mc m h) (lent-rising nc n k)
+
+pub lent-unknown : (uc : ℕ) (u : List ℕ) (ic : ℕ) (i : List ℕ) (vc : ℕ) (v : List ℕ) → Named uc u → Named ic i → Named vc v
+    → unknownWalk (take uc u) (take ic i) (take vc v) ≡ unknownTo (strsIn (name uc u)) (strsIn (name ic i)) (strsIn (name vc v))
+unfolding strsIn
+lent-unknown uc u ic i vc v h k l =
+    unknown-walk (narrow .digits) (omega arith) (take uc u) (take ic i) (take vc v) (lent-words uc u h) (lent-words ic i k) (lent-words vc v l)
+    (lent-rising uc u h) (lent-rising ic i k) (lent-rising vc v l)
 
 -- ---- changed one after the other
 
 module _ (f : ℕ → ℕ) where
-  -- the first c elements changed, the others as they are
+  -- the first c elements changed, and 0 in place of the others
   unfoldable pub firsts : ℕ → List ℕ → List ℕ
-  firsts zero l = l
-  firsts (suc c) [] = []
+  firsts c [] = []
+  firsts zero (x ∷ l) = 0 ∷ firsts zero l
   firsts (suc c) (x ∷ l) = f x ∷ firsts c l
 
   firsts-suc : (i : ℕ) (l : List ℕ) → set (firsts i l) i (f (getD l i 0)) ≡ firsts (suc i) l
@@ -120,13 +155,14 @@ module _ (f : ℕ → ℕ) where
   pub firsts-more : (i v : ℕ) (l m : List ℕ) → m ≡ firsts i l → v ≡ f (getD l i 0) → set m i v ≡ firsts (i + 1) l
   firsts-more i v l m e g = ap₂ (λ (k : List ℕ) (x : ℕ). set k i x) e g ∙ firsts-suc i l ∙ ap (λ (k : ℕ). firsts k l) (sym (add-one i))
 
-  pub firsts-none : (l : List ℕ) → firsts 0 l ≡ l
+  pub firsts-none : (l : List ℕ) → firsts 0 l ≡ replicate (length l) 0
   unfolding firsts
-  firsts-none l = refl
+  firsts-none [] = refl
+  firsts-none (x ∷ l) = ap (λ (k : List ℕ). 0 ∷ k) (firsts-none l)
 
-  firsts-all : (l k : List ℕ) → firsts (length l) (l ++ k) ≡ map f l ++ k
+  firsts-all : (l : List ℕ) (k : ℕ) → firsts (length l) (l ++ replicate k 0) ≡ map f l ++ replicate k 0
   unfolding firsts
-  firsts-all [] k = refl
+  firsts-all [] k = firsts-none (replicate k 0) ∙ ap (λ (j : ℕ). replicate {A = ℕ} j 0) (length-replicate k 0)
   firsts-all (x ∷ l) k = ap (λ (m : List ℕ). f x ∷ m) (firsts-all l k)
 
 -- ---- a digit more
@@ -182,7 +218,7 @@ module _ (L : Limits) (room : L .digits ≤ 58) (n : Words) (h : isStoredName L 
       q
       ∙ ap (λ (x : ℕ). firsts (longer x) (n .count) (n .words)) (sym (digit-eqb d k))
       ∙ ap₂ (firsts (longer (digit (eqb d 1)))) (stored-count L n h ∙ sym (length-map m wordOf)) (words-are L n h)
-      ∙ firsts-all (longer (digit (eqb d 1))) (map wordOf m) (zeros L n h)
+      ∙ firsts-all (longer (digit (eqb d 1))) (map wordOf m) (L .strings - length m)
       ∙ ap₂ (λ (l z : List ℕ). l ++ z) (longer-words (eqb d 1) m (λ s i. omega (arith, shorter s i)))
       (ap (λ (j : ℕ). replicate {A = ℕ} (L .strings - j) 0) (sym (append-length (eqb d 1) m))) in
       λ i. record { count = count i; words = words i }

@@ -1,21 +1,20 @@
 // Stamps by value, on records of any content: lawful, update, fork, compare, and what 2, 8 and 9 ask of two stamps that meet.
+// The words of a record's names are lent to private functions, each with its count: u and v of updates, i and j of ids.
 ghost use mathlib.Core.Path.{_≡_};
-ghost use mathlib.Core.Bool.{true, false, not};
+ghost use mathlib.Core.Bool.{false, not};
 ghost use mathlib.Core.List.{[]};
 ghost use Prim.Native.Nat.{_<_};
 ghost use lib.Dec.{eqb};
 ghost use lib.ListN.{length};
 ghost use Rattle.rules.specs.Limits.{narrow};
-ghost use Rattle.rules.specs.Names.{any};
-ghost use Rattle.rules.specs.Stamps.{append, isNone, pair};
-ghost use Rattle.rules.specs.Stored.{blank, held, isStored, isStoredName, strsIn, wordsOf};
-ghost use Rattle.rules.specs.Refusals.{first, overlap, unseen};
+ghost use Rattle.rules.specs.Names.{any, below};
+ghost use Rattle.rules.specs.Stamps.{append, isNone, pair, verdict};
+ghost use Rattle.rules.specs.Stored.{blank, isStored, strsIn, wordsOf};
+ghost use Rattle.rules.specs.Refusals.{first, touches, unknownTo};
 ghost use Rattle.rules.specs.Values.{updated, forked, compared, meeting};
 ghost use Rattle.rules.specs.declared.Answer.the-variants.{Refused};
-use names::is_below;
-use names::is_name;
-use names::is_touching;
-use names::is_unknown;
+ghost use Rattle.stamps.specs.Lent.{name, stamp, Named};
+use names::is_name_in;
 use rules::Answer;
 use rules::Compared;
 use rules::Forked;
@@ -24,49 +23,24 @@ use rules::Record;
 use rules::Refusal;
 use rules::Verdict;
 use rules::Words;
-use strings::DIGITS;
-use strings::are_siblings;
+use walks::has_twins;
+use walks::is_below;
+use walks::is_long;
+use walks::is_touching;
+use walks::is_unknown;
 
 // Whether the record is the stored shape of a lawful stamp.
 pub fn is_lawful(r: Record) -> bool
     ensures { λ b. ⌜ b ≡ isStored narrow r ⌝ }
 {
-    let u = r.update;
-    let i = r.id;
-    if is_name(u) {
-        if is_name(i) {
-            if is_below(u, i) {
-                return !has_pair(i);
-            }
-        }
-    }
-    false
-}
-
-// Whether two strings of a name differ in the last digit only: in rising order such two are neighbours.
-fn has_pair(n: Words) -> bool
-    requires { ⌜ isStoredName narrow n ≡ true ⌝ }
-    ensures { λ b. ⌜ b ≡ not (isNone (pair (strsIn n))) ⌝ }
-{
-    let c = n.count;
-    let mut last = n.words[0];
-    let mut i = 1;
-    while i < c {
-        let s = n.words[i];
-        if are_siblings(last, s) {
-            return true;
-        }
-        last = s;
-        i += 1;
-    }
-    false
+    lawful_in(&r.update.words, r.update.count, &r.id.words, r.id.count)
 }
 
 // [u|i] becomes [i|i]; all zeros where the record is unlawful.
 pub fn update(r: Record) -> Given
     ensures { λ g. ⌜ g ≡ updated narrow r ⌝ }
 {
-    if is_lawful(r) {
+    if lawful_in(&r.update.words, r.update.count, &r.id.words, r.id.count) {
         let i = r.id;
         let s = Record { update: i, id: i };
         return Given {
@@ -85,16 +59,16 @@ pub fn update(r: Record) -> Given
 pub fn fork(r: Record) -> Forked
     ensures { λ f. ⌜ f ≡ forked narrow r ⌝ }
 {
-    if !is_lawful(r) {
+    let c = r.id.count;
+    if !lawful_in(&r.update.words, r.update.count, &r.id.words, c) {
         return no_fork(Refusal::Unlawful);
     }
-    let u = r.update;
-    let i = r.id;
-    if is_long(i) {
+    if long_in(&r.id.words, c) {
         return no_fork(Refusal::Long);
     }
-    let i0 = grown(i, 0);
-    let i1 = grown(i, 1);
+    let u = r.update;
+    let i0 = grown(&r.id.words, c, 0);
+    let i1 = grown(&r.id.words, c, 1);
     let zero = Record { update: u, id: i0 };
     let one = Record { update: u, id: i1 };
     Forked {
@@ -102,6 +76,168 @@ pub fn fork(r: Record) -> Forked
         zero: zero,
         one: one,
     }
+}
+
+// What two stamps that meet are refused for: 2 for the first, 2 for the second, 8, 9.
+pub fn meet(a: Record, b: Record) -> Answer
+    ensures { λ r. ⌜ r ≡ first (meeting narrow a b []) ⌝ }
+{
+    met(
+        &a.update.words,
+        a.update.count,
+        &a.id.words,
+        a.id.count,
+        &b.update.words,
+        b.update.count,
+        &b.id.words,
+        b.id.count,
+    )
+}
+
+// How the first stands to the second.
+pub fn compare(a: Record, b: Record) -> Compared
+    ensures { λ c. ⌜ c ≡ compared narrow a b ⌝ }
+{
+    let m = met(
+        &a.update.words,
+        a.update.count,
+        &a.id.words,
+        a.id.count,
+        &b.update.words,
+        b.update.count,
+        &b.id.words,
+        b.id.count,
+    );
+    match m {
+        Answer::Refused(r) => Compared::Refused(r),
+        Answer::Done => Compared::Is(judged(
+            &a.update.words,
+            a.update.count,
+            &b.update.words,
+            b.update.count,
+        )),
+    }
+}
+
+// Whether the two names are a lawful stamp.
+fn lawful_in<'a>(u: &'a [u64], uc: usize, i: &'a [u64], ic: usize) -> bool
+    ensures { λ b. ⌜ b ≡ isStored narrow (stamp uc (now (u .entry)) ic (now (i .entry))) ⌝ }
+{
+    if is_name_in(u, uc) {
+        if is_name_in(i, ic) {
+            if below_in(u, uc, i, ic) {
+                return !twins_in(i, ic);
+            }
+        }
+    }
+    false
+}
+
+// The tests of two stamps that meet, in their order.
+fn met<'a>(
+    u: &'a [u64],
+    uc: usize,
+    i: &'a [u64],
+    ic: usize,
+    v: &'a [u64],
+    vc: usize,
+    j: &'a [u64],
+    jc: usize,
+) -> Answer
+    ensures { λ r. ⌜ r ≡ first (meeting narrow (stamp uc (now (u .entry)) ic (now (i .entry))) (stamp vc (now (v .entry)) jc (now (j .entry))) []) ⌝ }
+{
+    if !lawful_in(u, uc, i, ic) {
+        return Answer::Refused(Refusal::Unlawful);
+    }
+    if !lawful_in(v, vc, j, jc) {
+        return Answer::Refused(Refusal::Unlawful);
+    }
+    if touching_in(i, ic, j, jc) {
+        return Answer::Refused(Refusal::Overlap);
+    }
+    if touching_in(j, jc, i, ic) {
+        return Answer::Refused(Refusal::Overlap);
+    }
+    if unknown_in(u, uc, j, jc, v, vc) {
+        return Answer::Refused(Refusal::Unseen);
+    }
+    if unknown_in(v, vc, i, ic, u, uc) {
+        return Answer::Refused(Refusal::Unseen);
+    }
+    Answer::Done
+}
+
+// Whether some string of m is a prefix of a string of n.
+fn touching_in(m: &[u64], mc: usize, n: &[u64], nc: usize) -> bool
+    requires { ⌜ Named mc (now m) × Named nc (now n) ⌝ }
+    ensures { λ r. ⌜ r ≡ touches (strsIn (name mc (now (m .entry)))) (strsIn (name nc (now (n .entry)))) ⌝ }
+{
+    is_touching(&m[..mc], &n[..nc])
+}
+
+// Whether some string of the update u is below the id i and not below the update v.
+fn unknown_in(u: &[u64], uc: usize, i: &[u64], ic: usize, v: &[u64], vc: usize) -> bool
+    requires { ⌜ Named uc (now u) × Named ic (now i) × Named vc (now v) ⌝ }
+    ensures { λ r. ⌜ r ≡ unknownTo (strsIn (name uc (now (u .entry)))) (strsIn (name ic (now (i .entry)))) (strsIn (name vc (now (v .entry)))) ⌝ }
+{
+    is_unknown(&u[..uc], &i[..ic], &v[..vc])
+}
+
+// How an update stands to another: below is asked both ways.
+fn judged(u: &[u64], uc: usize, v: &[u64], vc: usize) -> Verdict
+    requires { ⌜ Named uc (now u) × Named vc (now v) ⌝ }
+    ensures { λ r. ⌜ r ≡ verdict (below (strsIn (name uc (now (u .entry)))) (strsIn (name vc (now (v .entry))))) (below (strsIn (name vc (now (v .entry)))) (strsIn (name uc (now (u .entry))))) ⌝ }
+{
+    if below_in(u, uc, v, vc) {
+        if below_in(v, vc, u, uc) {
+            return Verdict::Equal;
+        }
+        return Verdict::Obsolete;
+    }
+    if below_in(v, vc, u, uc) {
+        return Verdict::Newer;
+    }
+    Verdict::Conflict
+}
+
+// Whether each string of m is a prefix of some string of n.
+fn below_in(m: &[u64], mc: usize, n: &[u64], nc: usize) -> bool
+    requires { ⌜ Named mc (now m) × Named nc (now n) ⌝ }
+    ensures { λ r. ⌜ r ≡ below (strsIn (name mc (now (m .entry)))) (strsIn (name nc (now (n .entry)))) ⌝ }
+{
+    is_below(&m[..mc], &n[..nc])
+}
+
+// Whether two strings of a name differ in the last digit only: in rising order such two are neighbours.
+fn twins_in(n: &[u64], c: usize) -> bool
+    requires { ⌜ Named c (now n) ⌝ }
+    ensures { λ b. ⌜ b ≡ not (isNone (pair (strsIn (name c (now (n .entry)))))) ⌝ }
+{
+    has_twins(&n[..c])
+}
+
+// Whether some string has as many digits as a string may have, and so can grow no longer.
+fn long_in(n: &[u64], c: usize) -> bool
+    requires { ⌜ Named c (now n) ⌝ }
+    ensures { λ b. ⌜ b ≡ any (λ t. eqb (length t) (narrow .digits)) (strsIn (name c (now (n .entry)))) ⌝ }
+{
+    is_long(&n[..c])
+}
+
+// The name with the digit d appended to each string: in a word the length grows by one, and d comes behind the other digits.
+fn grown(n: &[u64], c: usize, d: u64) -> Words
+    requires { ⌜ Named c (now n) × (any (λ t. eqb (length t) (narrow .digits)) (strsIn (name c (now n))) ≡ false) × (d < 2) ⌝ }
+    ensures { λ r. ⌜ r ≡ wordsOf narrow (append (eqb d 1) (strsIn (name c (now (n .entry))))) ⌝ }
+{
+    let w = [0; 16];
+    let mut out = Words { count: c, words: w };
+    let mut i = 0;
+    while i < c {
+        let s = n[i];
+        out.words[i] = s + 1 + (d << (63 - s % 64));
+        i += 1;
+    }
+    out
 }
 
 // The refusal, and all zeros beside it.
@@ -123,111 +259,4 @@ fn nothing() -> Record
     let w = [0; 16];
     let n = Words { count: 0, words: w };
     Record { update: n, id: n }
-}
-
-// Whether some string has as many digits as a string may have, and so can grow no longer.
-fn is_long(n: Words) -> bool
-    requires { ⌜ isStoredName narrow n ≡ true ⌝ }
-    ensures { λ b. ⌜ b ≡ any (λ t. eqb (length t) (narrow .digits)) (strsIn n) ⌝ }
-{
-    let c = n.count;
-    let mut i = 0;
-    while i < c {
-        let s = n.words[i];
-        if s % 64 == DIGITS {
-            return true;
-        }
-        i += 1;
-    }
-    false
-}
-
-// The name with the digit d appended to each string: in a word the length grows by one, and d comes behind the other digits.
-fn grown(n: Words, d: u64) -> Words
-    requires { ⌜ (isStoredName narrow n ≡ true) × (any (λ t. eqb (length t) (narrow .digits)) (strsIn n) ≡ false) × (d < 2) ⌝ }
-    ensures { λ r. ⌜ r ≡ wordsOf narrow (append (eqb d 1) (strsIn n)) ⌝ }
-{
-    let c = n.count;
-    let mut out = n;
-    let mut i = 0;
-    while i < c {
-        let s = n.words[i];
-        out.words[i] = s + 1 + (d << (63 - s % 64));
-        i += 1;
-    }
-    out
-}
-
-// What two stamps that meet are refused for: 2 for the first, 2 for the second, 8, 9.
-pub fn meet(a: Record, b: Record) -> Answer
-    ensures { λ r. ⌜ r ≡ first (meeting narrow a b []) ⌝ }
-{
-    if !is_lawful(a) {
-        return Answer::Refused(Refusal::Unlawful);
-    }
-    if !is_lawful(b) {
-        return Answer::Refused(Refusal::Unlawful);
-    }
-    if is_overlap(a, b) {
-        return Answer::Refused(Refusal::Overlap);
-    }
-    if is_unseen(a, b) {
-        return Answer::Refused(Refusal::Unseen);
-    }
-    Answer::Done
-}
-
-// Whether a string of one id is a prefix of a string of the other.
-fn is_overlap(a: Record, b: Record) -> bool
-    ensures { λ r. ⌜ r ≡ overlap (held a) (held b) ⌝ }
-{
-    let i = a.id;
-    let j = b.id;
-    if is_touching(i, j) {
-        return true;
-    }
-    is_touching(j, i)
-}
-
-// Whether a string of one update is below the other's id and not below the other's update.
-fn is_unseen(a: Record, b: Record) -> bool
-    ensures { λ r. ⌜ r ≡ unseen (held a) (held b) ⌝ }
-{
-    let u = a.update;
-    let v = b.update;
-    let i = a.id;
-    let j = b.id;
-    if is_unknown(u, j, v) {
-        return true;
-    }
-    is_unknown(v, i, u)
-}
-
-// How the first stands to the second.
-pub fn compare(a: Record, b: Record) -> Compared
-    ensures { λ c. ⌜ c ≡ compared narrow a b ⌝ }
-{
-    let m = meet(a, b);
-    match m {
-        Answer::Refused(r) => Compared::Refused(r),
-        Answer::Done => Compared::Is(judged(a, b)),
-    }
-}
-
-// How the first's update stands to the second's: below is asked both ways.
-fn judged(a: Record, b: Record) -> Verdict
-    ensures { λ v. ⌜ v ≡ Rattle.rules.specs.Stamps.compare (held a) (held b) ⌝ }
-{
-    let m = a.update;
-    let n = b.update;
-    if is_below(m, n) {
-        if is_below(n, m) {
-            return Verdict::Equal;
-        }
-        return Verdict::Obsolete;
-    }
-    if is_below(n, m) {
-        return Verdict::Newer;
-    }
-    Verdict::Conflict
 }

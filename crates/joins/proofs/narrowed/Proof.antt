@@ -1,32 +1,42 @@
--- `joins::narrowed` meets its contract: the words copied, with those from index i on, are all the words. Assumes nothing.
+-- `joins::narrowed` meets its contract: the words copied, with those from index i on, are all of them. Assumes nothing.
 use mathlib.Core.Path.{_≡_, refl, sym, ap, _∙_}
-use Prim.Native.Nat.{_-_, _≤_}
+use mathlib.Core.List.{List}
+use Prim.Native.Nat.{ℕ, _+_, _-_, _≤_, _<_}
 use native.Mathlib.Omega.{arith}
 use borrow.Author.Needs.{needs}
-use lib.ListN.{replicate}
-use lib.Seq.{sets}
+use lib.ListN.{length, take, drop, getD, set, replicate, drop-of-length-le}
+use lib.Seq.{sets, getD-take, length-take-le}
 use Rattle.rules.specs.Limits.{narrow}
-use Rattle.joins.specs.Runs.{run, front}
-use Rattle.joins.proofs.Runs.{run-start, run-length, copy-more, copy-end}
+use Rattle.unions.proofs.Stores.{copy-step}
+use Rattle.joins.specs.Buffers.{words}
+use Rattle.joins.proofs.Buffers.{sets-filled}
 use Rattle.joins.proofs.narrowed.Statement.{statement}
 use Rattle.joins.proofs.narrowed.Tie as tie
 
 abbrev Inv-loop : tie.InvT-loop
-Inv-loop n c out₀ i₀ out i =
-    (i ≤ c) × (out .count ≡ c)
-    × (sets (out .words) i (run (n .words) i (c - i)) ≡ sets (replicate (narrow .strings) 0) 0 (front (n .words) c))
+Inv-loop w c out₀ i₀ out i =
+    (i ≤ c) × (out .count ≡ c) × (sets (out .words) i (drop i (take c w)) ≡ sets (replicate (narrow .strings) 0) 0 (take c w))
 
 abbrev μ-loop : tie.MeasureT-loop
-μ-loop n c out₀ i₀ out i = c - i
+μ-loop w c out₀ i₀ out i = c - i
+
+more : (w out z : List ℕ) (i c : ℕ) → i < c → c ≤ length w → sets out i (drop i (take c w)) ≡ z
+    → sets (set out i (getD w i 0)) (i + 1) (drop (i + 1) (take c w)) ≡ z
+more w out z i c h k e =
+    ap (λ (x : ℕ). sets (set out i x) (i + 1) (drop (i + 1) (take c w))) (sym (getD-take c w i 0 h))
+    ∙ copy-step (take c w) out i i (omega (arith, length-take-le c w k)) ∙ e
+
+end : (w out z : List ℕ) (i c : ℕ) → c ≤ i → c ≤ length w → sets out i (drop i (take c w)) ≡ z → out ≡ z
+end w out z i c h k e = rw (drop-of-length-le (take c w) {i = i} (omega (arith, length-take-le c w k))) at e
 
 loop-holds : tie.Need-loop-holds Inv-loop μ-loop
-loop-holds c = (search needs, refl, ap (sets (replicate (narrow .strings) 0) 0) (run-start (c .args .t1 .words) (c .args .t1 .count)))
+loop-holds c = (search needs, refl, refl)
 
 mul-out : tie.Need-mul-out Inv-loop μ-loop
 mul-out c = search needs
 
-element-copy-out-out : tie.Need-element-copy-out-out Inv-loop μ-loop
-element-copy-out-out c = search needs
+shared-slice-read-out : tie.Need-shared-slice-read-out Inv-loop μ-loop
+shared-slice-read-out c = search needs
 
 mul-out-2 : tie.Need-mul-out-2 Inv-loop μ-loop
 mul-out-2 c = search needs
@@ -43,16 +53,33 @@ loop-less c = search needs
 loop-again : tie.Need-loop-again Inv-loop μ-loop
 loop-again c =
     let l = c .before .before in
-    let g = l .before .args .t1 in
-    (search needs, l .loop .inv .1, copy-more (l .loop .out .words) (g .words) _ (l .loop .i) (g .count) (omega arith) (l .loop .inv .2))
+    let g = l .before in
+    (search needs, l .loop .inv .1, more (g .args .w .now) (l .loop .out .words) _ (l .loop .i) (g .args .c) (omega arith) (g .pre .1) (l .loop .inv .2))
 
 returns : tie.Need-returns Inv-loop μ-loop
+unfolding words
 returns c =
     let l = c .before in
-    let g = l .before .args .t1 in
-    let p = l .loop .inv .1 ∙ sym (run-length (g .words) 0 (g .count)) in
-    let q = copy-end (l .loop .out .words) (g .words) _ (l .loop .i) (g .count) (omega arith) (l .loop .inv .2) in
+    let g = l .before in
+    let t = take (g .args .c) (g .args .w .now) in
+    let n : length t ≡ g .args .c = length-take-le (g .args .c) (g .args .w .now) (g .pre .1) in
+    let p = l .loop .inv .1 ∙ sym n in
+    let q = end (g .args .w .now) (l .loop .out .words) _ (l .loop .i) (g .args .c) (omega arith) (g .pre .1) (l .loop .inv .2)
+    ∙ sets-filled (narrow .strings) t (omega (arith, n)) in
     λ i. record { count = p i; words = q i }
 
 pub narrowed-spec : {M : Type 1} → statement M
-narrowed-spec = tie.close (tie.spec Inv-loop μ-loop loop-holds mul-out element-copy-out-out mul-out-2 element-write-out add-i loop-less loop-again returns)
+narrowed-spec =
+    tie.close
+    (tie.spec
+    Inv-loop
+    μ-loop
+    loop-holds
+    mul-out
+    shared-slice-read-out
+    mul-out-2
+    element-write-out
+    add-i
+    loop-less
+    loop-again
+    returns)

@@ -1,42 +1,46 @@
--- `is_zero_from` says whether all words from an index on are 0: the first that is not decides. Assumes nothing.
+-- `is_zero_from` says whether all words from an index on are 0: a bit that is set in one of them stays set. Assumes nothing.
 use borrow.Author.Needs.{needs}
-use mathlib.Core.Path.{_≡_, refl, sym, _∙_}
+use mathlib.Core.Path.{_≡_, refl, sym, ap, _∙_}
+use mathlib.Core.Bool.{Bool, _&&_, and-assoc, and-true}
 use native.Mathlib.Omega.{arith}
-use Prim.Native.Nat.{_≤_, _-_}
-use borrow.Author.Tests.{eq-eqb, ne-eqb}
+use Prim.Native.Nat.{ℕ, _+_, _-_}
+use borrow.Author.Tests.{eqb-true, eq-eqb}
+use lib.Bits.{bitOr, or-add-and, and-le-l, and-le-r}
 use lib.Dec.{eqb}
 use lib.ListN.{length, getD, drop, drop-of-length-le}
 use Rattle.rules.specs.Names.{all}
-use Rattle.names.proofs.Laws.{field-length, all-more, all-stop, all-end, from-cons}
+use Rattle.laws.proofs.Tests.{iff, and-left, and-right, and-both}
+use Rattle.names.proofs.Laws.{all-cons, all-end, from-cons}
 use Rattle.names.proofs.is_zero_from.Statement.{statement}
 use Rattle.names.proofs.is_zero_from.Tie as tie
 
--- the words from i on decide
+-- no bit is set in either exactly when both are 0
+or-zero : (a b : ℕ) → eqb (bitOr a b) 0 ≡ (eqb a 0 && eqb 0 b)
+or-zero a b =
+    iff
+    (λ h.
+    let e = eqb-true (bitOr a b) 0 h in
+    and-both (eq-eqb a 0 (omega (arith, or-add-and a b, and-le-l a b, and-le-r a b))) (eq-eqb 0 b (omega (arith, or-add-and a b, and-le-l a b, and-le-r a b))))
+    (λ h.
+    let p = eqb-true a 0 (and-left (eqb a 0) (eqb 0 b) h) in
+    let q = eqb-true 0 b (and-right (eqb a 0) (eqb 0 b) h) in
+    eq-eqb (bitOr a b) 0 (omega (arith, or-add-and a b)))
+
+-- the bits seen so far, and the words from i on, decide
 abbrev Inv-loop : tie.InvT-loop
-Inv-loop c n i₀ i = (i ≤ 16) × (all (eqb 0) (drop i (n .words)) ≡ all (eqb 0) (drop c (n .words)))
+Inv-loop w c bits₀ i₀ bits i = (eqb bits 0 && all (eqb 0) (drop i w)) ≡ all (eqb 0) (drop c w)
 
 abbrev μ-loop : tie.MeasureT-loop
-μ-loop c n i₀ i = 16 - i
-
-full : (g : tie.Start Inv-loop μ-loop) → length (g .args .t1 .words) ≡ 16
-full g = field-length (g .args .t1 .words) (g .good .0 .1 .1 .1 .0 .1 .0 .1)
+μ-loop w c bits₀ i₀ bits i = length w - i
 
 loop-holds : tie.Need-loop-holds Inv-loop μ-loop
-loop-holds c = (search needs, refl)
+loop-holds c = refl
 
-mul-if1 : tie.Need-mul-if1 Inv-loop μ-loop
-mul-if1 c = search needs
+mul-bits : tie.Need-mul-bits Inv-loop μ-loop
+mul-bits c = search needs
 
-element-copy-out-if1 : tie.Need-element-copy-out-if1 Inv-loop μ-loop
-element-copy-out-if1 c = search needs
-
-returns : tie.Need-returns Inv-loop μ-loop
-returns c =
-    let l = c .before .before .before in
-    let g = l .before in
-    let ws = g .args .t1 .words in
-    sym (all-stop (eqb 0) (from-cons ws (l .loop .i) (omega (arith, full g))) (ne-eqb 0 (getD ws (l .loop .i) 0) (λ e. c .if1 .taken (sym e))))
-    ∙ l .loop .inv .1
+shared-slice-read-bits : tie.Need-shared-slice-read-bits Inv-loop μ-loop
+shared-slice-read-bits c = search needs
 
 add-i : tie.Need-add-i Inv-loop μ-loop
 add-i c = search needs
@@ -46,30 +50,23 @@ loop-less c = search needs
 
 loop-again : tie.Need-loop-again Inv-loop μ-loop
 loop-again c =
-    let l = c .before .before .before in
-    let g = l .before in
-    let ws = g .args .t1 .words in (
-      search needs,
-      sym (all-more (eqb 0) (from-cons ws (l .loop .i) (omega (arith, full g))) (eq-eqb 0 (getD ws (l .loop .i) 0) (sym (c .if1 .left)))) ∙ l .loop .inv .1,
-    )
+    let l = c .before .before in
+    let w = l .before .args .w .now in
+    let s = getD w (l .loop .i) 0 in
+    let rest = all (eqb 0) (drop (l .loop .i + 1) w) in
+    ap (λ (b : Bool). b && rest) (or-zero (l .loop .bits) s)
+    ∙ and-assoc (eqb (l .loop .bits) 0) (eqb 0 s) rest
+    ∙ ap (λ (b : Bool). eqb (l .loop .bits) 0 && b) (sym (all-cons (eqb 0) (from-cons w (l .loop .i) (omega arith))))
+    ∙ l .loop .inv
 
-returns-2 : tie.Need-returns-2 Inv-loop μ-loop
-returns-2 c =
+returns : tie.Need-returns Inv-loop μ-loop
+returns c =
     let l = c .before in
-    let g = l .before in
-    sym (all-end (eqb 0) (drop-of-length-le (g .args .t1 .words) {i = l .loop .i} (omega (arith, full g)))) ∙ l .loop .inv .1
+    let w = l .before .args .w .now in
+    let none = all-end (eqb 0) (drop-of-length-le w {i = l .loop .i} (omega arith)) in
+    sym (and-true (eqb (l .loop .bits) 0))
+    ∙ ap (λ (b : Bool). eqb (l .loop .bits) 0 && b) (sym none)
+    ∙ l .loop .inv
 
 pub is-zero-from-spec : {M : Type 1} → statement M
-is-zero-from-spec =
-    tie.close
-    (tie.spec
-    Inv-loop
-    μ-loop
-    loop-holds
-    mul-if1
-    element-copy-out-if1
-    returns
-    add-i
-    loop-less
-    loop-again
-    returns-2)
+is-zero-from-spec = tie.close (tie.spec Inv-loop μ-loop loop-holds mul-bits shared-slice-read-bits add-i loop-less loop-again returns)

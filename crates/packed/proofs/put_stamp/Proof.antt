@@ -1,97 +1,146 @@
--- `packed::put_stamp` meets its contract: both names and zeros up to a whole byte are put, so that no bit is held, and bytes whose bits
--- are these and a filling are the stamp packed. Assumes nothing.
-use mathlib.Core.Path.{_≡_, refl, sym, ap, ap₂, _∙_}
-use mathlib.Core.Bool.{true}
-use mathlib.Core.List.{List, [], _∷_, _++_, append-nil}
-use Prim.Native.Nat.{ℕ, zero, suc, _-_, _%_, _<_}
+-- `packed::put_stamp` meets its contract: each name's strings are put behind its count, and what is then written are the stamp's bits.
+-- Assumes nothing.
+use mathlib.Core.Path.{_≡_, refl, sym, ap, _∙_}
+use mathlib.Core.Bool.{Bool}
+use mathlib.Core.List.{List, _++_, map, append-assoc}
+use Prim.Native.Nat.{ℕ, _+_, _*_, _-_, _%_, _^_, _≤_}
 use native.Mathlib.Omega.{arith}
 use borrow.Author.Needs.{needs}
-use borrow.Author.Tests.{eq-eqb}
-use lib.Dec.{ltb}
-use lib.Pow.{pow-pos}
-use lib.ListN.{length, take, drop, length-append, take-append-drop}
+use lib.ListN.{length, take, drop, length-map}
+use lib.Seq.{drop-drop}
 use Rattle.rules.specs.Limits.{narrow}
-use Rattle.rules.specs.Strings.{field, value}
-use Rattle.rules.specs.Names.{all}
-use Rattle.rules.specs.Stored.{strsIn, held}
-use Rattle.rules.specs.Packed.{nameBits, stampBits, packed, over, bitsOf, isFilling}
-use Rattle.rules.specs.declared.Record.{Record}
-use Rattle.laws.proofs.Tests.{and-left, and-right, and-both}
-use Rattle.laws.proofs.Bits.{field-length, value-field-exact}
-use Rattle.layout.proofs.Bytes.{areBytes, pack-of-bits}
-use Rattle.layout.proofs.Sizes.{packed-length}
-use Rattle.stamps.proofs.Laws.{stored-names}
-use Rattle.packed.specs.Cursors.{Put}
+use Rattle.rules.specs.Strings.{field, strOf}
+use Rattle.rules.specs.Packed.{stringsBits, nameBits, stampBits, packBits, packed, over, bitsOf}
+use Rattle.packed.specs.Cursors.{written, Put}
+use Rattle.packed.specs.Fits.{told}
 use Rattle.packed.specs.declared.Pen.{Pen}
-use Rattle.packed.proofs.Laws.{put-on, filling-value, bytes-are, record-length}
+use Rattle.packed.proofs.Laws.{bytes-are, name-length, stamp-length}
+use Rattle.packed.proofs.Writing.{both-fit, push-lt, push-bits}
 use Rattle.packed.proofs.put_stamp.Statement.{statement}
 use Rattle.packed.proofs.put_stamp.Tie as tie
 
-abbrev start : Pen
-start = record { at = 0; held = 0; acc = 0 }
+abbrev strings : List ℕ → List Bool
+strings n = stringsBits narrow (map strOf n)
 
-filling-field : (k : ℕ) → k < 8 → isFilling (field k 0) ≡ true
-filling-field k h =
-    sym (filling-value (field k 0) (omega (arith, field-length k 0))) ∙ eq-eqb (value (field k 0)) 0 (value-field-exact k 0 (pow-pos k))
+abbrev name : List ℕ → List Bool
+name n = nameBits narrow (map strOf n)
 
-bytes-front : (n : ℕ) (b : List ℕ) → areBytes b ≡ true → areBytes (take n b) ≡ true
-unfolding all
-bytes-front zero b h = refl
-bytes-front (suc n) [] h = refl
-bytes-front (suc n) (x ∷ b) h = and-both (and-left (ltb x 256) (areBytes b) h) (bytes-front n b (and-right (ltb x 256) (areBytes b) h))
+-- the count of the words of n is held
+abbrev first : List ℕ → Pen
+first n = record { at = 0; held = 4; acc = length n - 1 }
 
--- whole bytes were put: the stamp, and the rest of l
-whole : (r : Record) (l : List ℕ) (k : ℕ) (q : Pen) (m : List ℕ) → areBytes m ≡ true → k < 8 → q .held ≡ 0
-    → Put start l (stampBits narrow (held r) ++ field k 0) q m → m ≡ over (packed narrow (held r)) l
-unfolding packed field bitsOf
-whole r l k q m bytes few none p =
-    let bs = stampBits narrow (held r) in
-    let front : bitsOf (take (q .at) m) ≡ bs ++ field k 0 =
-    sym (append-nil (bitsOf (take (q .at) m))) ∙ ap (λ (h : ℕ). bitsOf (take (q .at) m) ++ field h (q .acc)) (sym none) ∙ p .bits in
-    let is : packed narrow (held r) ≡ take (q .at) m = pack-of-bits (take (q .at) m) bs (field k 0) (bytes-front (q .at) m bytes) front (filling-field k few) in
-    let long : length (packed narrow (held r)) ≡ q .at =
-    packed-length narrow (held r) ∙ omega (arith, p .moved, length-append bs (field k 0), field-length k 0) in
-    sym (take-append-drop (q .at) m) ∙ ap₂ (λ (a b : List ℕ). a ++ b) (sym is) (p .kept ∙ ap (λ (n : ℕ). drop n l) (sym long))
+abbrev next : Pen → List ℕ → Pen
+next q n = record { at = q .at; held = q .held + 4; acc = (q .acc * 2 ^ 4) % 2 ^ 64 + (length n - 1) }
 
-put-name-requires : tie.Need-put-name-requires
-put-name-requires c κs =
-    let g = c .before .before in (
-      stored-names narrow (g .args .r) (g .pre .0) .0,
-      record { few = omega arith; small = omega arith; room = omega (arith, g .pre .1, record-length (g .args .r)) },
+counted : (n : List ℕ) → field 4 (length n - 1) ++ strings n ≡ name n
+unfolding nameBits
+counted n = ap (λ (k : ℕ). field 4 (k - 1) ++ strings n) (sym (length-map n strOf))
+
+name-size : (n : List ℕ) → length (name n) ≡ 4 + length (strings n)
+name-size n = name-length (map strOf n)
+
+-- where two lists agree they agree further on
+drop-on : (i j : ℕ) (l m : List ℕ) → i ≤ j → drop i l ≡ drop i m → drop j l ≡ drop j m
+drop-on i j l m h e =
+    let on : i + (j - i) ≡ j = omega arith in
+    ap (λ (k : ℕ). drop k l) (sym on) ∙ sym (drop-drop (j - i) i l) ∙ ap (drop (j - i)) e ∙ drop-drop (j - i) i m ∙ ap (λ (k : ℕ). drop k m) on
+
+module _ (u i l : List ℕ) (q : Pen) (m : List ℕ) (p : Put (first u) l (strings u) q m) where
+  update-bits : written q m ≡ name u
+  unfolding bitsOf
+  update-bits = p .bits ∙ counted u
+
+  next-bits : length i ≤ 16 → written (next q i) m ≡ name u ++ field 4 (length i - 1)
+  next-bits h =
+      let b = bitsOf (take (q .at) m) in
+      ap (λ (x : List Bool). b ++ x)
+      (push-bits (q .acc) (q .held) 60 4 (length i - 1) (omega (arith, p .few)) refl (omega arith))
+      ∙ sym (append-assoc b (field (q .held) (q .acc)) (field 4 (length i - 1)))
+      ∙ ap (λ (x : List Bool). x ++ field 4 (length i - 1)) update-bits
+
+  module _ (r : Pen) (k : List ℕ) (s : Put (next q i) m (strings i) r k) where
+    stamp-is : length i ≤ 16 → packBits (written r k) ≡ packed narrow (told u i)
+    unfolding packed stampBits
+    stamp-is h =
+        ap packBits
+        (s .bits ∙ ap (λ (x : List Bool). x ++ strings i) (next-bits h) ∙ append-assoc (name u) (field 4 (length i - 1)) (strings i)
+        ∙ ap (λ (x : List Bool). name u ++ x) (counted i))
+
+    rest-kept : drop (length (packed narrow (told u i))) k ≡ drop (length (packed narrow (told u i))) l
+    rest-kept =
+        let n = length (packed narrow (told u i)) in
+        let size = stamp-length (told u i) in
+        drop-on (r .at) n k m (omega (arith, size, s .moved, p .moved, name-size u, name-size i)) (s .kept)
+        ∙ drop-on (q .at) n m l (omega (arith, size, p .moved, name-size u, name-size i)) (p .kept)
+
+    whole : (z : List ℕ) → length i ≤ 16 → z ≡ over (packBits (written r k)) k → z ≡ over (packed narrow (told u i)) l
+    whole z h e =
+        e ∙ ap (λ (x : List ℕ). over x k) (stamp-is h) ∙ ap (λ (x : List ℕ). packed narrow (told u i) ++ x) rest-kept
+
+sub-c : tie.Need-sub-c
+sub-c c = let g = c .before .before .before in both-fit (g .args .update .now) (g .args .id .now) (g .pre .0) .0 .nonempty
+
+sub-d : tie.Need-sub-d
+sub-d c = let g = c .before .before .before in both-fit (g .args .update .now) (g .args .id .now) (g .pre .0) .1 .nonempty
+
+put-strings-requires : tie.Need-put-strings-requires
+put-strings-requires c κs =
+    let g = c .before .before .before .before in
+    let u = g .args .update .now in
+    let i = g .args .id .now in (
+      both-fit u i (g .pre .0) .0 .short,
+      record { few = omega arith; room = omega (arith, g .pre .1, stamp-length (told u i), name-size u, name-size i) },
     )
 
-put-name-requires-2 : tie.Need-put-name-requires-2
-put-name-requires-2 c κs =
-    let u = c .before .before .before in
-    let g = u .before .before .before in
-    let p = u .put-name .ensures in (
-      stored-names narrow (g .args .r) (g .pre .0) .1,
-      record { few = p .few; small = p .small; room = omega (arith, p .moved, u .put-name .kept .0, g .pre .1, record-length (g .args .r)) },
-    )
+add-held : tie.Need-add-held
+add-held c = search needs
 
-sub-left : tie.Need-sub-left
-sub-left c = search needs
+shl-acc : tie.Need-shl-acc
+shl-acc c = search needs
 
-put-requires : tie.Need-put-requires
-put-requires c κs =
-    let i = c .before .before .before .before in
-    let u = i .before .before .before .before in
-    let g = u .before .before .before in
-    let p = i .put-name2 .ensures in (
-      omega arith,
-      pow-pos _,
+add-acc : tie.Need-add-acc
+add-acc c =
+    let p = c .before .before .before .before in
+    let g = p .before .before .before .before .before in
+    let i = g .args .id .now in
+    let fit = both-fit (g .args .update .now) i (g .pre .0) .1 in
+    record { fits = push-lt (p .put-strings .result .acc) 60 4 (length i - 1) refl (omega (arith, fit .few)) }
+
+put-strings-requires-2 : tie.Need-put-strings-requires-2
+put-strings-requires-2 c κs =
+    let p = c .before .before .before .before .before in
+    let g = p .before .before .before .before .before in
+    let u = g .args .update .now in
+    let i = g .args .id .now in
+    let put = p .put-strings .ensures in (
+      both-fit u i (g .pre .0) .1 .short,
       record {
-        few = p .few;
-        small = p .small;
+        few = omega (arith, put .fewer (omega arith));
+        room = omega (arith, put .moved, p .put-strings .kept .0, g .pre .1, stamp-length (told u i), name-size u, name-size i);
+      },
+    )
+
+put-rest-requires : tie.Need-put-rest-requires
+put-rest-requires c κs =
+    let s = c .before .before .before in
+    let p = s .before .before .before .before .before .before in
+    let g = p .before .before .before .before .before in
+    let u = g .args .update .now in
+    let i = g .args .id .now in
+    let put = s .put-strings2 .ensures in (
+      bytes-are (s .put-strings2 .last .0) (λ j. c .before .slice-known3 .given j .fits),
+      record {
+        few = put .few;
         room = omega (
           arith,
-          p .moved,
-          p .few,
-          u .put-name .ensures .moved,
-          i .put-name2 .kept .0,
-          u .put-name .kept .0,
+          put .moved,
+          p .put-strings .ensures .moved,
+          s .put-strings2 .kept .0,
+          p .put-strings .kept .0,
           g .pre .1,
-          record-length (g .args .r),
+          stamp-length (told u i),
+          name-size u,
+          name-size i,
         );
       },
     )
@@ -100,23 +149,28 @@ same-length : tie.Need-same-length
 same-length c = search needs
 
 returns : tie.Need-returns
-unfolding stampBits held
 returns c =
-    let f = c .before .before in
-    let i = f .before .before .before .before .before in
-    let u = i .before .before .before .before in
-    let g = u .before .before .before in
-    let r = g .args .r in
-    let l = g .args .out .now in
-    let k = (8 - i .put-name2 .result .held) % 8 in
-    let m = f .put .last .0 in
-    whole r l k (f .put .result) m (bytes-are m (λ j. c .slice-known4 .given j .fits)) (omega arith)
-    (omega (arith, f .put .ensures .moved, f .put .ensures .few, i .put-name2 .ensures .few, field-length k 0))
-    (put-on start l (stampBits narrow (held r)) (i .put-name2 .result) (i .put-name2 .last .0) (field k 0) (f .put .result) m
-    (put-on start l (nameBits narrow (strsIn (r .update))) (u .put-name .result) (u .put-name .last .0) (nameBits narrow (strsIn (r .id)))
-    (i .put-name2 .result) (i .put-name2 .last .0) (u .put-name .ensures) (i .put-name2 .ensures)) (f .put .ensures))
+    let e = c .before .before in
+    let s = e .before .before .before .before in
+    let p = s .before .before .before .before .before .before in
+    let g = p .before .before .before .before .before in
+    let u = g .args .update .now in
+    let i = g .args .id .now in
+    whole u i (g .args .out .now) (p .put-strings .result) (p .put-strings .last .0) (p .put-strings .ensures)
+    (s .put-strings2 .result) (s .put-strings2 .last .0) (s .put-strings2 .ensures) (e .put-rest .last .0)
+    (both-fit u i (g .pre .0) .1 .few) (e .put-rest .ensures)
 
 pub put-stamp-spec : {M : Type 1} → statement M
 put-stamp-spec =
     tie.close
-    (tie.spec put-name-requires put-name-requires-2 sub-left put-requires same-length returns)
+    (tie.spec
+    sub-c
+    sub-d
+    put-strings-requires
+    add-held
+    shl-acc
+    add-acc
+    put-strings-requires-2
+    put-rest-requires
+    same-length
+    returns)

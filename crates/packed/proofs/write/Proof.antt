@@ -1,87 +1,98 @@
--- `packed::write` meets its contract: lawful, then long enough, each tested before a byte is written. Assumes nothing.
-use mathlib.Core.Path.{_≡_, sym, ap, _∙_}
+-- `packed::write` meets its contract: the words of a lawful record fit, and tell the stamp that it holds. Assumes nothing.
+use mathlib.Core.Path.{_≡_, sym, _∙_}
 use mathlib.Core.Bool.{true, false}
 use mathlib.Core.List.{List}
-use Prim.Native.Nat.{ℕ, _≤_, _<_}
-use native.Mathlib.Omega.{arith}
+use Prim.Native.Nat.{ℕ}
 use borrow.Author.Needs.{needs}
-use borrow.Author.Tests.{lt-ltb, le-ltb, not-true, not-false}
-use lib.ListN.{length}
+use lib.ListN.{take}
+use lib.Seq.{length-take-le}
 use Rattle.rules.specs.Limits.{narrow}
-use Rattle.rules.specs.Stored.{held, unlawful, isStored}
+use Rattle.rules.specs.Stored.{strsIn, held, isStored, unlawful}
 use Rattle.rules.specs.Refusals.{first}
-use Rattle.rules.specs.Packed.{Wrote, packed, over, wrote, writtenStamp}
+use Rattle.rules.specs.Packed.{wrote, writtenStamp}
 use Rattle.rules.specs.declared.Record.{Record}
-use Rattle.rules.specs.declared.Refusal.the-variants.{Unlawful, Short}
-use Rattle.rules.specs.declared.Written.the-variants.{Bytes, Refused as NotWritten}
+use Rattle.rules.specs.declared.Refusal.the-variants.{Unlawful}
+use Rattle.rules.specs.declared.Written.the-variants.{Refused as NotWritten}
+use Rattle.stamps.proofs.Laws.{stored-names}
+use Rattle.packed.specs.Fits.{writtenNames}
+use Rattle.packed.proofs.Writing.{stored-fits, stored-inside, both}
 use Rattle.packed.proofs.write.Statement.{statement}
 use Rattle.packed.proofs.write.Tie as tie
-
--- the answer and what the buffer holds, of what was written
-both : (w v : Wrote) → v ≡ w → (w .answer ≡ v .answer) × (w .out ≡ v .out)
-both w v e = (ap (λ (x : Wrote). x .answer) (sym e), ap (λ (x : Wrote). x .out) (sym e))
-
--- ---- the three ways
 
 not-lawful : (r : Record) (l : List ℕ) → isStored narrow r ≡ false → writtenStamp narrow r l ≡ record { answer = NotWritten Unlawful; out = l }
 unfolding writtenStamp unlawful first wrote
 not-lawful r l e = rw e
 
-too-short : (r : Record) (l : List ℕ) → isStored narrow r ≡ true → length l < length (packed narrow (held r))
-    → writtenStamp narrow r l ≡ record { answer = NotWritten Short; out = l }
-unfolding writtenStamp unlawful first wrote
-too-short r l e h = simp (e, lt-ltb (length l) (length (packed narrow (held r))) h)
-
-fits : (r : Record) (l : List ℕ) → isStored narrow r ≡ true → length (packed narrow (held r)) ≤ length l
-    → writtenStamp narrow r l ≡ record { answer = Bytes (length (packed narrow (held r))); out = over (packed narrow (held r)) l }
-unfolding writtenStamp unlawful first wrote
-fits r l e h = simp (e, le-ltb (length l) (length (packed narrow (held r))) h)
+-- what is written of the record is what is written of its words
+written-is : (r : Record) (l : List ℕ) → isStored narrow r ≡ true
+    → writtenStamp narrow r l ≡ writtenNames narrow (take (r .update .count) (r .update .words)) (take (r .id .count) (r .id .words)) l
+unfolding writtenStamp writtenNames unlawful held strsIn
+written-is r l h = rw (h, stored-fits r h)
 
 is-lawful-requires : tie.Need-is-lawful-requires
 is-lawful-requires c κs = search needs
 
-returns : tie.Need-returns
-returns c =
-    let t = c .before in
-    let g = t .before .before .args in
-    both _ _ (not-lawful (g .r) (g .out .now) (sym (t .is-lawful .ensures) ∙ not-true _ (c .if1 .taken)))
+array-share-prefix-u : tie.Need-array-share-prefix-u
+array-share-prefix-u c =
+    let f = c .before .before in
+    let t = f .before in
+    let r = t .before .before .args .r in
+    stored-inside (r .update) (stored-names narrow r (sym (t .is-lawful .ensures) ∙ f .if1 .taken) .0)
 
-bytes-of-requires : tie.Need-bytes-of-requires
-bytes-of-requires c κs = sym (c .before .is-lawful .ensures) ∙ not-false _ (c .if1 .left)
+slice-aggregate-write-from : tie.Need-slice-aggregate-write-from
+slice-aggregate-write-from c =
+    let f = c .before .before .before in
+    let t = f .before in
+    let r = t .before .before .args .r in
+    let inside = stored-inside (r .update) (stored-names narrow r (sym (t .is-lawful .ensures) ∙ f .if1 .taken) .0) in
+    sym (length-take-le (r .update .count) (r .update .words) inside)
 
-returns-2 : tie.Need-returns-2
-returns-2 c =
-    let b = c .before in
-    let t = b .before .before in
-    let g = t .before .before .args in
-    both _ _ (too-short (g .r) (g .out .now) (sym (t .is-lawful .ensures) ∙ not-false _ (b .before .if1 .left)) (omega (arith, b .bytes-of .ensures)))
+array-share-prefix-i : tie.Need-array-share-prefix-i
+array-share-prefix-i c =
+    let f = c .before .before .before in
+    let t = f .before in
+    let r = t .before .before .args .r in
+    stored-inside (r .id) (stored-names narrow r (sym (t .is-lawful .ensures) ∙ f .if1 .taken) .1)
 
-put-stamp-requires : tie.Need-put-stamp-requires
-put-stamp-requires c κs =
-    let b = c .before .before in
-    let t = b .before .before in
-    (sym (t .is-lawful .ensures) ∙ not-false _ (b .before .if1 .left), omega (arith, b .bytes-of .ensures))
+slice-aggregate-write-from-2 : tie.Need-slice-aggregate-write-from-2
+slice-aggregate-write-from-2 c =
+    let f = c .before .before .before .before in
+    let t = f .before in
+    let r = t .before .before .args .r in
+    let inside = stored-inside (r .id) (stored-names narrow r (sym (t .is-lawful .ensures) ∙ f .if1 .taken) .1) in
+    sym (length-take-le (r .id .count) (r .id .words) inside)
+
+write-from-requires : tie.Need-write-from-requires
+write-from-requires c κs = search needs
 
 same-length : tie.Need-same-length
 same-length c = search needs
 
-returns-3 : tie.Need-returns-3
-returns-3 c =
-    let p = c .before .before in
-    let b = p .before .before .before in
-    let t = b .before .before in
+returns : tie.Need-returns
+returns c =
+    let w = c .before .before in
+    let f = w .before .before .before .before .before .before in
+    let t = f .before in
     let g = t .before .before .args in
-    let w = both _ _ (fits (g .r) (g .out .now) (sym (t .is-lawful .ensures) ∙ not-false _ (b .before .if1 .left)) (omega (arith, b .bytes-of .ensures))) in
-    (ap Bytes (b .bytes-of .ensures) ∙ w .0, p .put-stamp .ensures ∙ w .1)
+    let same = both _ _ (written-is (g .r) (g .out .now) (sym (t .is-lawful .ensures) ∙ f .if1 .taken)) in
+    (w .write-from .ensures .0 ∙ same .0, w .write-from .ensures .1 ∙ same .1)
+
+returns-2 : tie.Need-returns-2
+returns-2 c =
+    let t = c .before in
+    let g = t .before .before .args in
+    both _ _ (not-lawful (g .r) (g .out .now) (sym (t .is-lawful .ensures) ∙ c .if1 .left))
 
 pub write-spec : {M : Type 1} → statement M
 write-spec =
     tie.close
     (tie.spec
     is-lawful-requires
-    returns
-    bytes-of-requires
-    returns-2
-    put-stamp-requires
+    array-share-prefix-u
+    slice-aggregate-write-from
+    array-share-prefix-i
+    slice-aggregate-write-from-2
+    write-from-requires
     same-length
-    returns-3)
+    returns
+    returns-2)

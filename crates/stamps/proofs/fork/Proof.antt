@@ -46,8 +46,8 @@ module _ (L : Limits) (r : Record) where
       let u = ap (λ (x : Record). x .update) (stored-is L r e) in
       rw (e, l) (λ i. record { answer = Done; zero = record { update = u i; id = p i }; one = record { update = u i; id = q i } })
 
-is-lawful-requires : tie.Need-is-lawful-requires
-is-lawful-requires c κs = search needs
+lawful-in-requires : tie.Need-lawful-in-requires
+lawful-in-requires c κs = search needs
 
 no-fork-requires : tie.Need-no-fork-requires
 no-fork-requires c κs = search needs
@@ -55,12 +55,16 @@ no-fork-requires c κs = search needs
 returns : tie.Need-returns
 returns c =
     let a = c .before .before in
-    first-refused narrow (a .before .args .r) (c .no-fork .result) (sym (a .is-lawful .ensures) ∙ not-true _ (c .before .if1 .taken)) (c .no-fork .ensures)
+    let g = a .before .before .before .before .before .before in
+    first-refused narrow (g .args .t1) (c .no-fork .result) (sym (a .lawful-in .ensures) ∙ not-true _ (c .before .if1 .taken)) (c .no-fork .ensures)
 
-is-long-requires : tie.Need-is-long-requires
-is-long-requires c κs =
-    let a = c .before .before .before in
-    stored-names narrow (a .before .args .r) (sym (a .is-lawful .ensures) ∙ not-false _ (c .before .before .if1 .left)) .1
+long-in-requires : tie.Need-long-in-requires
+long-in-requires c κs =
+    let o = c .before .before .before in
+    let a = o .before in
+    let g = a .before .before .before .before .before .before in
+    let named = stored-names narrow (g .args .t1) (sym (a .lawful-in .ensures) ∙ not-false _ (o .if1 .left)) in
+    search (named .0, named .1)
 
 no-fork-requires-2 : tie.Need-no-fork-requires-2
 no-fork-requires-2 c κs = search needs
@@ -68,41 +72,48 @@ no-fork-requires-2 c κs = search needs
 returns-2 : tie.Need-returns-2
 returns-2 c =
     let l = c .before .before in
-    let o = l .before .before .before in
+    let o = l .before .before .before .before in
     let a = o .before in
-    then-refused narrow (a .before .args .r) (c .no-fork2 .result) (sym (a .is-lawful .ensures) ∙ not-false _ (o .if1 .left))
-    (sym (l .is-long .ensures) ∙ c .before .if2 .taken) (c .no-fork2 .ensures)
+    let g = a .before .before .before .before .before .before in
+    then-refused narrow (g .args .t1) (c .no-fork2 .result) (sym (a .lawful-in .ensures) ∙ not-false _ (o .if1 .left))
+    (sym (l .long-in .ensures) ∙ c .before .if2 .taken) (c .no-fork2 .ensures)
 
 grown-requires : tie.Need-grown-requires
 grown-requires c κs =
-    let l = c .before in
-    let o = l .before .before .before in
-    let a = o .before in (
-      stored-names narrow (a .before .args .r) (sym (a .is-lawful .ensures) ∙ not-false _ (o .if1 .left)) .1,
-      sym (l .is-long .ensures) ∙ c .if2 .left,
+    let n = c .before .before .before .before in
+    let l = n .before in
+    let o = l .before .before .before .before in
+    let a = o .before in
+    let g = a .before .before .before .before .before .before in (
+      stored-names narrow (g .args .t1) (sym (a .lawful-in .ensures) ∙ not-false _ (o .if1 .left)) .1,
+      sym (l .long-in .ensures) ∙ n .if2 .left,
       omega arith,
     )
 
 grown-requires-2 : tie.Need-grown-requires-2
 grown-requires-2 c κs =
-    let l = c .before .before in
-    let o = l .before .before .before in
-    let a = o .before in (
-      stored-names narrow (a .before .args .r) (sym (a .is-lawful .ensures) ∙ not-false _ (o .if1 .left)) .1,
-      sym (l .is-long .ensures) ∙ c .before .if2 .left,
+    let n = c .before .before .before .before .before .before .before .before in
+    let l = n .before in
+    let o = l .before .before .before .before in
+    let a = o .before in
+    let g = a .before .before .before .before .before .before in (
+      stored-names narrow (g .args .t1) (sym (a .lawful-in .ensures) ∙ not-false _ (o .if1 .left)) .1,
+      sym (l .long-in .ensures) ∙ n .if2 .left,
       omega arith,
     )
 
 returns-3 : tie.Need-returns-3
 returns-3 c =
-    let n = c .before .before in
+    let k = c .before .before .before .before in
+    let n = k .before .before .before .before .before in
     let l = n .before in
-    let o = l .before .before .before in
+    let o = l .before .before .before .before in
     let a = o .before in
-    done narrow (a .before .args .r) (c .before .grown .result) (c .grown2 .result) (sym (a .is-lawful .ensures) ∙ not-false _ (o .if1 .left))
-    (sym (l .is-long .ensures) ∙ n .if2 .left) (c .before .grown .ensures) (c .grown2 .ensures)
+    let g = a .before .before .before .before .before .before in
+    done narrow (g .args .t1) (k .grown .result) (c .grown2 .result) (sym (a .lawful-in .ensures) ∙ not-false _ (o .if1 .left))
+    (sym (l .long-in .ensures) ∙ n .if2 .left) (k .grown .ensures) (c .grown2 .ensures)
 
 pub fork-spec : {M : Type 1} → statement M
 fork-spec =
     tie.close
-    (tie.spec is-lawful-requires no-fork-requires returns is-long-requires no-fork-requires-2 returns-2 grown-requires grown-requires-2 returns-3)
+    (tie.spec lawful-in-requires no-fork-requires returns long-in-requires no-fork-requires-2 returns-2 grown-requires grown-requires-2 returns-3)

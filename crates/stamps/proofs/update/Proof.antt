@@ -27,11 +27,11 @@ refused : (L : Limits) (r : Record) (z : Record) → isStored L r ≡ false → 
 unfolding updated first unlawful
 refused L r z e b = rw e (ap (λ (x : Record). record { answer = Refused Unlawful; stamp = x }) b)
 
-is-lawful-requires : tie.Need-is-lawful-requires
-is-lawful-requires c κs = search needs
+lawful-in-requires : tie.Need-lawful-in-requires
+lawful-in-requires c κs = search needs
 
 returns : tie.Need-returns
-returns c = let a = c .before .before in done narrow (a .before .args .r) (sym (a .is-lawful .ensures) ∙ c .before .if1 .taken)
+returns c = let a = c .before .before in done narrow (a .before .before .before .before .before .before .args .t1) (sym (a .lawful-in .ensures) ∙ c .before .if1 .taken)
 
 nothing-requires : tie.Need-nothing-requires
 nothing-requires c κs = search needs
@@ -39,7 +39,7 @@ nothing-requires c κs = search needs
 returns-2 : tie.Need-returns-2
 returns-2 c =
     let a = c .before .before in
-    refused narrow (a .before .args .r) (c .nothing .result) (sym (a .is-lawful .ensures) ∙ c .before .if1 .left) (c .nothing .ensures)
+    refused narrow (a .before .before .before .before .before .before .args .t1) (c .nothing .result) (sym (a .lawful-in .ensures) ∙ c .before .if1 .left) (c .nothing .ensures)
 
 pub update-spec : {M : Type 1} → statement M
-update-spec = tie.close (tie.spec is-lawful-requires returns nothing-requires returns-2)
+update-spec = tie.close (tie.spec lawful-in-requires returns nothing-requires returns-2)

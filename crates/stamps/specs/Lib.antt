@@ -1,0 +1,2 @@
+-- What the contracts of private functions cite: names and stamps whose words are lent.
+pub mod Lent

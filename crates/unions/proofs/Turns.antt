@@ -1,0 +1,105 @@
+-- What the loop of `unite` comes to from a turn on: a turn leaves it as it was, and at the end one of the two is all that is left. Assumes nothing.
+use mathlib.Core.Path.{_≡_, refl, sym, ap, ap₂, _∙_}
+use mathlib.Core.Bool.{Bool, true, false, cond, not}
+use mathlib.Core.List.{List, [], _∷_, _++_, append-nil}
+use mathlib.Core.Logic.{_⊎_, inl, inr}
+use Prim.Native.Nat.{ℕ, suc, _+_, _≤_, _<_}
+use native.Mathlib.Nat.{zero-add, add-assoc}
+use native.Mathlib.Numerals.{add-one}
+use native.Mathlib.Omega.{arith}
+use borrow.Author.Tests.{lt-ltb, le-ltb, le-leb, lt-leb}
+use lib.ListN.{length, drop, getD, length-append, drop-of-length-le}
+use lib.Seq.{sets, drop-cons}
+use Rattle.unions.specs.Unions.{opt, prefixW, mergeFrom, merge, united, unitedIn}
+use Rattle.unions.proofs.Counts.{merge-few}
+use Rattle.unions.proofs.Stores.{sets-append, sets-front}
+
+-- ---- one turn of the merge
+
+module _ (s t : ℕ) (m n : List ℕ) where
+  merge-lower : s < t → merge (s ∷ m) (t ∷ n) ≡ opt (not (prefixW s t)) s ++ merge m (t ∷ n)
+  unfolding merge mergeFrom
+  merge-lower h = simp (lt-ltb s t h) (by (prefixW s t))
+    where
+      by : (b : Bool) → cond b (merge m (t ∷ n)) (s ∷ merge m (t ∷ n)) ≡ opt (not b) s ++ merge m (t ∷ n)
+      by true = refl
+      by false = refl
+
+  merge-upper : t ≤ s → merge (s ∷ m) (t ∷ n) ≡ opt (not (prefixW t s)) t ++ merge (s ∷ m) n
+  unfolding merge mergeFrom
+  merge-upper h = simp (le-ltb s t h) (by (prefixW t s))
+    where
+      by : (b : Bool) → cond b (merge (s ∷ m) n) (t ∷ merge (s ∷ m) n) ≡ opt (not b) t ++ merge (s ∷ m) n
+      by true = refl
+      by false = refl
+
+merge-none : (m : List ℕ) → merge m [] ≡ m
+unfolding merge mergeFrom
+merge-none [] = refl
+merge-none (s ∷ m) = refl
+
+-- ---- in the loop
+
+pub opt-few : (b : Bool) (x : ℕ) → length (opt b x) ≤ 1
+opt-few true x = omega arith
+opt-few false x = omega arith
+
+-- with k words in the buffer, and m and n to come
+unfoldable pub merges : List ℕ → List ℕ → List ℕ → ℕ → ℕ × List ℕ
+merges m n out k = (k + length (merge m n), sets out k (merge m n))
+
+-- a word is put, or none
+puts : (w m n a b out : List ℕ) (k : ℕ) → merge a b ≡ w ++ merge m n → merges m n (sets out k w) (k + length w) ≡ merges a b out k
+unfolding merges
+puts w m n a b out k e =
+    ap₂ (λ (x : ℕ) (y : List ℕ). (x, y))
+    (add-assoc k (length w) (length (merge m n)) ∙ ap (λ (x : ℕ). k + x) (sym (length-append w (merge m n))) ∙ ap (λ (l : List ℕ). k + length l) (sym e))
+    (sym (sets-append w (merge m n) out k) ∙ ap (sets out k) (sym e))
+
+module _ (m n out : List ℕ) (k i j : ℕ) (hi : i < length m) (hj : j < length n) where
+  abbrev here : ℕ
+  here = getD m i 0
+
+  abbrev there : ℕ
+  there = getD n j 0
+
+  -- b says whether the lower one is a prefix of the other
+  pub merges-lower : (b : Bool) (r : ℕ) (after : List ℕ) → here < there → b ≡ prefixW here there
+      → r ≡ k + length (opt (not b) here) → after ≡ sets out k (opt (not b) here)
+      → merges (drop (i + 1) m) (drop j n) after r ≡ merges (drop i m) (drop j n) out k
+  merges-lower b r after h e p q =
+      rw (q, p, e)
+      (puts (opt (not (prefixW here there)) here) (drop (i + 1) m) (drop j n) (drop i m) (drop j n) out k
+      (rw (add-one, drop-cons m i 0 hi, drop-cons n j 0 hj) (merge-lower here there (drop (suc i) m) (drop (suc j) n) h)))
+
+  pub merges-upper : (b : Bool) (r : ℕ) (after : List ℕ) → there ≤ here → b ≡ prefixW there here
+      → r ≡ k + length (opt (not b) there) → after ≡ sets out k (opt (not b) there)
+      → merges (drop i m) (drop (j + 1) n) after r ≡ merges (drop i m) (drop j n) out k
+  merges-upper b r after h e p q =
+      rw (q, p, e)
+      (puts (opt (not (prefixW there here)) there) (drop i m) (drop (j + 1) n) (drop i m) (drop j n) out k
+      (rw (add-one, drop-cons m i 0 hi, drop-cons n j 0 hj) (merge-upper here there (drop (suc i) m) (drop (suc j) n) h)))
+
+-- one of the two has no word left: what is left of the other follows
+pub merges-end : (m n out : List ℕ) (k i j : ℕ) → (length n ≤ j) ⊎ (length m ≤ i)
+    → merges (drop i m) (drop j n) out k
+    ≡ (k + length (drop i m) + length (drop j n), sets (sets out k (drop i m)) (k + length (drop i m)) (drop j n))
+unfolding merges merge
+merges-end m n out k i j h =
+    ap₂ (λ (x : ℕ) (y : List ℕ). (x, y))
+    (ap (λ (l : List ℕ). k + length l) (one h) ∙ ap (λ (x : ℕ). k + x) (length-append (drop i m) (drop j n)) ∙ omega arith)
+    (ap (sets out k) (one h) ∙ sets-append (drop i m) (drop j n) out k)
+  where
+    one : (length n ≤ j) ⊎ (length m ≤ i) → merge (drop i m) (drop j n) ≡ drop i m ++ drop j n
+    one (inl e) = rw (drop-of-length-le n e) (merge-none (drop i m) ∙ sym (append-nil (drop i m)))
+    one (inr e) = rw (drop-of-length-le m e)
+
+pub merges-all : (m n out : List ℕ) → length m + length n ≤ length out → merges m n out 0 ≡ (united m n out, unitedIn m n out)
+unfolding merges united unitedIn
+merges-all m n out h =
+    simp (le-leb (length m + length n) (length out) h)
+    (ap₂ (λ (x : ℕ) (y : List ℕ). (x, y)) (zero-add (length (merge m n))) (sets-front (merge m n) out (omega (arith, merge-few m n))))
+
+pub united-none : (m n out : List ℕ) → length out < length m + length n → (0 ≡ united m n out) × (out ≡ unitedIn m n out)
+unfolding united unitedIn
+united-none m n out h = simp (lt-leb (length m + length n) (length out) h) (refl, refl)

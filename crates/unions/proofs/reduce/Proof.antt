@@ -1,0 +1,90 @@
+-- `unions::reduce` meets its contract. The loop's invariant: the words to come pushed on the stack are all words pushed on none. The stack never
+-- overtakes the reader, so the words to come are as they were. The measure is how many are to come. Assumes nothing.
+use mathlib.Core.Path.{_≡_, refl, _∙_}
+use mathlib.Core.List.{[]}
+use Prim.Native.Nat.{_-_, _≤_}
+use native.Mathlib.Omega.{arith}
+use borrow.Author.Needs.{needs}
+use lib.ListN.{length, take, drop}
+use Rattle.unions.specs.Unions.{pushAll, reduced, reducedCount, reducedIn, stack}
+use Rattle.unions.proofs.Stacks.{turn-more, turn-end, turn-clears, front-none}
+use Rattle.unions.proofs.reduce.Statement.{statement}
+use Rattle.unions.proofs.reduce.Tie as tie
+
+abbrev Inv-loop : tie.InvT-loop
+Inv-loop id₀ count k₀ i₀ id k i =
+    (k ≤ i) × (i ≤ count) × (length id ≡ length id₀) × (drop i id ≡ drop i id₀)
+    × (pushAll (stack id k) (drop i (take count id₀)) ≡ pushAll [] (take count id₀))
+
+abbrev μ-loop : tie.MeasureT-loop
+μ-loop id₀ count k₀ i₀ id k i = count - i
+
+returns : tie.Need-returns Inv-loop μ-loop
+unfolding reducedCount reducedIn
+returns c = let g = c .before .before .args in front-none (g .id .now) (g .count) (reduced (take (g .count) (g .id .now))) (omega arith)
+
+loop-holds : tie.Need-loop-holds Inv-loop μ-loop
+unfolding stack
+loop-holds c = (search needs, search needs, refl, refl, refl)
+
+mul-s : tie.Need-mul-s Inv-loop μ-loop
+mul-s c = search needs
+
+slice-read-s : tie.Need-slice-read-s Inv-loop μ-loop
+slice-read-s c = search needs
+
+push-requires : tie.Need-push-requires Inv-loop μ-loop
+push-requires c κs = search needs
+
+add-i : tie.Need-add-i Inv-loop μ-loop
+add-i c = search needs
+
+loop-less : tie.Need-loop-less Inv-loop μ-loop
+loop-less c = search needs
+
+loop-again : tie.Need-loop-again Inv-loop μ-loop
+loop-again c =
+    let p = c .before .before in
+    let l = p .before .before .before .before in
+    let g = l .before .before .before .args in
+    let more =
+    turn-more (g .id .now) (g .count) (omega arith) (l .loop .id) (p .push .last .0) (l .loop .k) (p .push .result) (l .loop .i) (omega arith) (omega arith)
+    (l .loop .inv .3) (p .push .ensures .1) (p .push .ensures .2) in
+    (omega (arith, p .push .ensures .0), search needs, p .push .kept .0 ∙ l .loop .inv .2, more .0, more .1 ∙ l .loop .inv .4)
+
+clear-requires : tie.Need-clear-requires Inv-loop μ-loop
+clear-requires c κs = let l = c .before .before in (omega arith, omega (arith, l .loop .inv .2))
+
+same-length : tie.Need-same-length Inv-loop μ-loop
+same-length c = search needs
+
+returns-2 : tie.Need-returns-2 Inv-loop μ-loop
+unfolding reducedCount reducedIn
+returns-2 c =
+    let p = c .before .before in
+    let l = p .before .before .before in
+    let g = l .before .before .before .args in
+    let d = l .loop .id in
+    let end : l .loop .i ≡ g .count = omega arith in
+    let rest : drop (g .count) d ≡ drop (g .count) (g .id .now) = rw end at (l .loop .inv .3) in
+    turn-clears (g .id .now) (g .count) (omega arith) (reduced (take (g .count) (g .id .now))) d (p .clear .last .0) (l .loop .k) (omega arith) (l .loop .inv .2)
+    (turn-end (g .id .now) (g .count) (omega arith) d (l .loop .k) (l .loop .i) (omega arith) (omega (arith, l .loop .inv .2)) (l .loop .inv .4)) rest
+    (p .clear .ensures)
+
+pub reduce-spec : {M : Type 1} → statement M
+reduce-spec =
+    tie.close
+    (tie.spec
+    Inv-loop
+    μ-loop
+    returns
+    loop-holds
+    mul-s
+    slice-read-s
+    push-requires
+    add-i
+    loop-less
+    loop-again
+    clear-requires
+    same-length
+    returns-2)

@@ -1,0 +1,2 @@
+-- What union and reduction leave, on words.
+pub mod Unions

@@ -1,0 +1,181 @@
+// Union and reduction of names in rising order, as lent words: each function goes once over its words.
+ghost use mathlib.Core.Path.{_≡_};
+ghost use Prim.Native.Nat.{_≤_, _<_, _+_, _-_};
+ghost use lib.ListN.{length, drop, replicate};
+ghost use lib.Seq.{sets};
+ghost use Rattle.unions.specs.Unions.{opt, stack, united, unitedIn, push, reducedCount, reducedIn, seek, root, onceOn, liftedCount, liftedIn};
+use strings::are_siblings;
+use strings::is_prefix;
+
+// The union of m and n at the front of the buffer; the rest of it stays. Gives how many words are written.
+// The buffer has to have room for the words of both. Where it has not, nothing is written, and 0 given.
+pub fn unite(m: &[u64], n: &[u64], out: &mut [u64]) -> usize
+    ensures { λ r. ⌜ (r ≡ united (now (m .entry)) (now (n .entry)) (now (out .entry)))
+        × (now (out .exit) ≡ unitedIn (now (m .entry)) (now (n .entry)) (now (out .entry))) ⌝ }
+{
+    if out.len() < m.len() + n.len() {
+        return 0;
+    }
+    let mut i = 0;
+    let mut j = 0;
+    let mut k = 0;
+    while i < m.len() && j < n.len() {
+        let s = m[i];
+        let t = n[j];
+        if s < t {
+            k = put(out, k, !is_prefix(s, t), s);
+            i += 1;
+        } else {
+            k = put(out, k, !is_prefix(t, s), t);
+            j += 1;
+        }
+    }
+    k = copy(out, k, m, i);
+    copy(out, k, n, j)
+}
+
+// The first words as reduction leaves an id; zeros in the place of those that are gone, and the rest of the buffer stays. Gives how many are left.
+// Where the buffer has not so many words, it stays as it is, and 0 is given.
+pub fn reduce(id: &mut [u64], count: usize) -> usize
+    ensures { λ r. ⌜ (r ≡ reducedCount (now (id .entry)) count) × (now (id .exit) ≡ reducedIn (now (id .entry)) count) ⌝ }
+{
+    if id.len() < count {
+        return 0;
+    }
+    let mut k = 0;
+    let mut i = 0;
+    while i < count {
+        let s = id[i];
+        k = push(id, k, s);
+        i += 1;
+    }
+    clear(id, k, count);
+    k
+}
+
+// The first words of an update as reduction leaves them beside the reduced id; zeros in the place of those that are gone, and the rest of the
+// buffer stays. Gives how many are left. Where the buffer has not so many words, it stays as it is, and 0 is given.
+pub fn lift(id: &[u64], u: &mut [u64], count: usize) -> usize
+    ensures { λ r. ⌜ (r ≡ liftedCount (now (id .entry)) (now (u .entry)) count) × (now (u .exit) ≡ liftedIn (now (id .entry)) (now (u .entry)) count) ⌝ }
+{
+    if u.len() < count {
+        return 0;
+    }
+    let mut j = 0;
+    let mut k = 0;
+    let mut i = 0;
+    while i < count {
+        let r = u[i];
+        j = seek(id, j, r);
+        k = put_once(u, k, root(id, j, r));
+        i += 1;
+    }
+    clear(u, k, count);
+    k
+}
+
+// Behind the words from j on that come before r and are no prefix of it.
+fn seek(id: &[u64], j: usize, r: u64) -> usize
+    requires { ⌜ j ≤ length (now id) ⌝ }
+    ensures { λ i. ⌜ (i ≤ length (now (id .entry))) × (drop i (now (id .entry)) ≡ seek (drop j (now (id .entry))) r) ⌝ }
+{
+    let mut i = j;
+    while i < id.len() {
+        let t = id[i];
+        if r <= t {
+            break;
+        }
+        if is_prefix(t, r) {
+            break;
+        }
+        i += 1;
+    }
+    i
+}
+
+// The word at j where it is a prefix of r; else r.
+fn root(id: &[u64], j: usize, r: u64) -> u64
+    ensures { λ x. ⌜ x ≡ root (drop j (now (id .entry))) r ⌝ }
+{
+    if j < id.len() {
+        let t = id[j];
+        if is_prefix(t, r) {
+            return t;
+        }
+    }
+    r
+}
+
+// The word x behind the first k words, unless it is the last of them. Gives how many there are then.
+fn put_once(u: &mut [u64], k: usize, x: u64) -> usize
+    requires { ⌜ k < length (now u) ⌝ }
+    ensures { λ r. ⌜ (r ≤ k + 1) × (stack (now (u .exit)) r ≡ onceOn x (stack (now (u .entry)) k))
+        × (drop (k + 1) (now (u .exit)) ≡ drop (k + 1) (now (u .entry))) ⌝ }
+{
+    if 0 < k {
+        if u[k - 1] == x {
+            return k;
+        }
+    }
+    u[k] = x;
+    k + 1
+}
+
+// The word s on the first k words: while the last of them is its sibling, both give way to what they share. Gives how many there are then.
+fn push(id: &mut [u64], k: usize, s: u64) -> usize
+    requires { ⌜ k < length (now id) ⌝ }
+    ensures { λ r. ⌜ (r ≤ k + 1) × (stack (now (id .exit)) r ≡ push s (stack (now (id .entry)) k))
+        × (drop (k + 1) (now (id .exit)) ≡ drop (k + 1) (now (id .entry))) ⌝ }
+{
+    let mut x = s;
+    let mut top = k;
+    while 0 < top {
+        let t = id[top - 1];
+        if !are_siblings(t, x) {
+            break;
+        }
+        x = t - 1;
+        top -= 1;
+    }
+    id[top] = x;
+    top + 1
+}
+
+// Zeros in a part of the buffer.
+fn clear(out: &mut [u64], from: usize, to: usize)
+    requires { ⌜ (from ≤ to) × (to ≤ length (now out)) ⌝ }
+    ensures { λ _. ⌜ now (out .exit) ≡ sets (now (out .entry)) from (replicate (to - from) 0) ⌝ }
+{
+    let mut i = from;
+    while i < to {
+        out[i] = 0;
+        i += 1;
+    }
+}
+
+// A word at a place of the buffer, or nothing. Gives the place behind it.
+fn put(out: &mut [u64], at: usize, yes: bool, x: u64) -> usize
+    requires { ⌜ at < length (now out) ⌝ }
+    ensures { λ r. ⌜ (r ≡ at + length (opt yes x)) × (now (out .exit) ≡ sets (now (out .entry)) at (opt yes x)) ⌝ }
+{
+    if yes {
+        out[at] = x;
+        return at + 1;
+    }
+    at
+}
+
+// The words of m from one on, from a place of the buffer on. Gives the place behind them.
+fn copy(out: &mut [u64], at: usize, m: &[u64], from: usize) -> usize
+    requires { ⌜ (from ≤ length (now m)) × (at + length (drop from (now m)) ≤ length (now out)) ⌝ }
+    ensures { λ r. ⌜ (r ≡ at + length (drop from (now (m .entry)))) × (now (out .exit) ≡ sets (now (out .entry)) at (drop from (now (m .entry)))) ⌝ }
+{
+    let mut k = at;
+    let mut i = from;
+    while i < m.len() {
+        out[k] = m[i];
+        k += 1;
+        i += 1;
+    }
+    k
+}

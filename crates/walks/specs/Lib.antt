@@ -1,0 +1,2 @@
+-- What the contracts cite: one walk over the words of names.
+pub mod Walks
