@@ -6,10 +6,13 @@ ghost use Rattle.rules.specs.Limits.{narrow};
 ghost use Rattle.rules.specs.Packed.{wrote, comparedAfter, packedUpdate, packedFork, packedJoin, packedCompare, sideOf};
 ghost use Rattle.rules.specs.declared.Verdict.the-variants.{Equal};
 ghost use Rattle.rules.specs.declared.Compared.the-variants.{Is};
+ghost use Rattle.packed.specs.Fits.{writtenNames};
 ghost use Rattle.calls.specs.Keep.{keptIs};
 use packed::read;
+use packed::read_in;
 use packed::size;
 use packed::write;
+use packed::write_from;
 use rules::Answer;
 use rules::Compared;
 use rules::Refusal;
@@ -20,15 +23,15 @@ use rules::Written;
 pub fn update(stamp: &[u8], out: &mut [u8]) -> Written
     ensures { λ w. ⌜ (w ≡ packedUpdate narrow (now (stamp .entry)) (now (out .entry)) .answer) × (now (out .exit) ≡ packedUpdate narrow (now (stamp .entry)) (now (out .entry)) .out) ⌝ }
 {
-    let g = read(stamp);
-    let a = g.answer;
+    let mut u = [0; 16];
+    let mut i = [0; 16];
+    let c = read_in(stamp, &mut u, &mut i);
+    let a = c.answer;
     let Answer::Done = a else {
         return refused(a);
     };
-    let s = g.stamp;
-    let u = stamps::update(s);
-    let t = u.stamp;
-    write(t, out)
+    let n = c.id;
+    write_alike(&i[..n], out)
 }
 
 // The 0 branch into zero and the 1 branch into one, or neither.
@@ -117,6 +120,13 @@ pub fn keep<'a>(first: &'a [u8], second: &'a [u8]) -> &'a [u8]
         Verdict::Newer => first,
         Verdict::Conflict => &first[0..0],
     }
+}
+
+// The stamp whose update is its id.
+fn write_alike(id: &[u64], out: &mut [u8]) -> Written
+    ensures { λ w. ⌜ (w ≡ writtenNames narrow (now (id .entry)) (now (id .entry)) (now (out .entry)) .answer) × (now (out .exit) ≡ writtenNames narrow (now (id .entry)) (now (id .entry)) (now (out .entry)) .out) ⌝ }
+{
+    write_from(id, id, out)
 }
 
 // A refusal passed out of a call that writes.

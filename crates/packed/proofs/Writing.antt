@@ -15,8 +15,8 @@ use Rattle.rules.specs.Limits.{Limits, narrow}
 use Rattle.rules.specs.Strings.{field, strOf}
 use Rattle.rules.specs.Names.{all, isName}
 use Rattle.rules.specs.Stamps.{lawful}
-use Rattle.rules.specs.Stored.{stored, strsIn, held, sameRecord, isStoredName, isStored}
-use Rattle.rules.specs.Packed.{nameBits, bitsOf, Wrote}
+use Rattle.rules.specs.Stored.{stored, strsIn, held, sameRecord, isStoredName, isStored, unlawful}
+use Rattle.rules.specs.Packed.{nameBits, bitsOf, Wrote, writtenStamp}
 use Rattle.rules.specs.declared.Record.{Record}
 use Rattle.rules.specs.declared.Words.{Words}
 use Rattle.laws.proofs.Tests.{and-left, and-right, and-both}
@@ -24,7 +24,7 @@ use Rattle.laws.proofs.Words.{field-low, str-length}
 use Rattle.layout.proofs.Names.{allShort, named, lawful-names}
 use Rattle.stamps.proofs.Laws.{stored-few}
 use Rattle.names.proofs.Shape.{stored-full}
-use Rattle.packed.specs.Fits.{told, allFit, fitsName, fits}
+use Rattle.packed.specs.Fits.{told, allFit, fitsName, fits, writtenNames}
 use Rattle.packed.proofs.Laws.{join-lt, field-join, name-length, strings-most}
 
 -- ---- words that fit
@@ -53,6 +53,12 @@ pub stored-fits : (r : Record) → isStored narrow r ≡ true
     → fits narrow (take (r .update .count) (r .update .words)) (take (r .id .count) (r .id .words)) ≡ true
 unfolding isStored held strsIn
 stored-fits r h = lawful-fits narrow _ _ (and-left (lawful narrow (held r)) (sameRecord r (stored narrow (held r))) h)
+
+-- what is written of a stored record is what is written of its words
+pub written-is : (r : Record) (l : List ℕ) → isStored narrow r ≡ true
+    → writtenStamp narrow r l ≡ writtenNames narrow (take (r .update .count) (r .update .words)) (take (r .id .count) (r .id .words)) l
+unfolding writtenStamp writtenNames unlawful held strsIn
+written-is r l h = rw (h, stored-fits r h)
 
 -- what makes words fit
 pub record Fitted (n : List ℕ) : Type 0 where

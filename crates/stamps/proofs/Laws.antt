@@ -14,9 +14,11 @@ use borrow.Author.Tests.{eqb-false}
 use Rattle.rules.specs.Limits.{Limits, narrow}
 use Rattle.rules.specs.Strings.{Str, _▹_, digit, wordOf, strOf, isWord}
 use Rattle.rules.specs.Names.{Name, any, all, rising, isName, below}
-use Rattle.rules.specs.Stamps.{pair, isNone, lawful, append}
-use Rattle.rules.specs.Stored.{wordsOf, stored, strsIn, held, sameWords, sameRecord, isStoredName, isStored}
-use Rattle.rules.specs.Refusals.{touches, unknownTo}
+use Rattle.rules.specs.Stamps.{pair, isNone, lawful, append, update}
+use Rattle.rules.specs.Stored.{wordsOf, stored, strsIn, held, sameWords, sameRecord, isStoredName, isStored, unlawful}
+use Rattle.rules.specs.Refusals.{first, touches, unknownTo}
+use Rattle.rules.specs.Values.{updated}
+use Rattle.rules.specs.declared.Answer.the-variants.{Done}
 use Rattle.rules.specs.declared.Words.{Words}
 use Rattle.rules.specs.declared.Record.{Record}
 use Rattle.laws.proofs.Tests.{and-left, and-right, In, any-none}
@@ -25,7 +27,7 @@ use Rattle.laws.proofs.Words.{word-length, word-lt, word-grown}
 use Rattle.laws.proofs.Shares.{grown-length}
 use Rattle.laws.proofs.Fork.{append-length}
 use Rattle.laws.proofs.Lawful.{name-parts}
-use Rattle.laws.proofs.Stored.{stored-name, stored-name-is}
+use Rattle.laws.proofs.Stored.{stored-is, stored-name, stored-name-is}
 use Rattle.walks.specs.Walks.{strs, belowWalk, touchWalk, unknownWalk, hasTwins, isLong}
 use Rattle.walks.proofs.Tells.{below-walk, touch-walk, unknown-walk, twins, long}
 use Rattle.names.proofs.Laws.{strs-cons, strs-end}
@@ -65,6 +67,11 @@ module _ (L : Limits) (r : Record) where
       let names = isStoredName L (r .update) && isStoredName L (r .id) in
       let both = and-left names b (and-left (names && b) (isNone (pair (strsIn (r .id)))) (sym stored-parts ∙ e)) in
       (and-left (isStoredName L (r .update)) (isStoredName L (r .id)) both, and-right (isStoredName L (r .update)) (isStoredName L (r .id)) both)
+
+-- what an edit makes of a stored record: the id twice
+pub updated-is : (L : Limits) (r : Record) → isStored L r ≡ true → record { answer = Done; stamp = record { update = r .id; id = r .id } } ≡ updated L r
+unfolding updated first unlawful update held stored
+updated-is L r e = rw e (ap (λ (x : Record). record { answer = Done; stamp = record { update = x .id; id = x .id } }) (stored-is L r e))
 
 -- ---- a stored name
 

@@ -1,18 +1,28 @@
 -- `calls::update` meets its contract: a refusal of the reader is passed out, and what is read is lawful, so that its update is too,
 -- and only a short buffer is left to refuse. Assumes nothing.
-use mathlib.Core.Path.{_≡_, sym}
+use mathlib.Core.Path.{_≡_, sym, ap, _∙_}
+use mathlib.Core.Bool.{true}
 use mathlib.Core.List.{List}
-use Prim.Native.Nat.{ℕ}
+use Prim.Native.Nat.{ℕ, _≤_}
 use borrow.Author.Needs.{needs}
 use lib.Dec.{lit≤}
+use lib.ListN.{length, take}
+use lib.Seq.{length-take-le}
 use Rattle.rules.specs.Limits.{narrow}
+use Rattle.rules.specs.Stored.{isStored}
 use Rattle.rules.specs.Values.{updated}
-use Rattle.rules.specs.Packed.{readStamp, wrote, writtenStamp, packedUpdate}
+use Rattle.rules.specs.Packed.{Wrote, readStamp, wrote, writtenStamp, packedUpdate}
 use Rattle.rules.specs.declared.Given.{Given}
+use Rattle.rules.specs.declared.Record.{Record}
 use Rattle.rules.specs.declared.Refusal.{Refusal}
 use Rattle.rules.specs.declared.Answer.the-variants.{Done, Refused}
 use Rattle.rules.specs.declared.Written.the-variants.{Refused as NotWritten}
-use Rattle.calls.proofs.Laws.{tells-same, tells-refused, read-stored, updated-done, updated-stored, written-is}
+use Rattle.stamps.proofs.Laws.{stored-names, updated-is}
+use Rattle.packed.specs.Fits.{writtenNames}
+use Rattle.packed.proofs.Lent.{givenBy, read-is}
+use Rattle.packed.proofs.Writing.{stored-inside, written-is}
+use Rattle.calls.proofs.Laws as laws
+use Rattle.calls.proofs.Laws.{tells-same, tells-refused, read-stored, updated-done, updated-stored}
 use Rattle.calls.proofs.update.Statement.{statement}
 use Rattle.calls.proofs.update.Tie as tie
 
@@ -21,15 +31,39 @@ module _ (s l : List ℕ) (g : Given) (e : g ≡ readStamp narrow s) where
   unfolding packedUpdate wrote
   not-read r t = rw (sym e, t)
 
-  writes : (u : Given) → g .answer ≡ Done → u ≡ updated narrow (g .stamp) → writtenStamp narrow (u .stamp) l ≡ packedUpdate narrow s l
-  unfolding packedUpdate
-  writes u t f =
-      let h = read-stored narrow (lit≤ tt) s g e t in
-      rw (f, sym e, t, updated-done narrow (lit≤ tt) (g .stamp) h)
-      (written-is narrow (lit≤ tt) (updated narrow (g .stamp) .stamp) l (updated-stored narrow (lit≤ tt) (g .stamp) h))
+  module _ (t : g .answer ≡ Done) where
+    is-read : isStored narrow (g .stamp) ≡ true
+    is-read = read-stored narrow (lit≤ tt) s g e t
 
-read-requires : tie.Need-read-requires
-read-requires c κs = search needs
+    -- the id twice
+    abbrev alike : Record
+    alike = record { update = g .stamp .id; id = g .stamp .id }
+
+    is-updated : alike ≡ updated narrow (g .stamp) .stamp
+    is-updated = ap (λ (x : Given). x .stamp) (updated-is narrow (g .stamp) is-read)
+
+    writes : writtenNames narrow (take (g .stamp .id .count) (g .stamp .id .words)) (take (g .stamp .id .count) (g .stamp .id .words)) l ≡ packedUpdate narrow s l
+    unfolding packedUpdate
+    writes =
+        let h = updated-stored narrow (lit≤ tt) (g .stamp) is-read in
+        sym (written-is alike l (ap (isStored narrow) is-updated ∙ h))
+        ∙ ap (λ (x : Record). writtenStamp narrow x l) is-updated
+        ∙ laws.written-is narrow (lit≤ tt) (updated narrow (g .stamp) .stamp) l h
+        ∙ rw (sym e, t, updated-done narrow (lit≤ tt) (g .stamp) is-read)
+
+-- what was read, by value
+module _ (c : tie.After-read-in) where
+  abbrev start : tie.Start
+  start = c .before .before .before .before .before
+
+  abbrev got : Given
+  got = givenBy (c .read-in .result) (c .read-in .last .1 .0) (c .read-in .last .1 .1 .0)
+
+  is-got : got ≡ readStamp narrow (start .args .stamp .now)
+  is-got = read-is _ _ _ _ (c .read-in .ensures .0) (c .read-in .ensures .1) (c .read-in .ensures .2)
+
+read-in-requires : tie.Need-read-in-requires
+read-in-requires c κs = search needs
 
 enum-told : tie.Need-enum-told
 enum-told c = search needs
@@ -43,15 +77,31 @@ refused-requires c κs = search needs
 returns : tie.Need-returns
 returns c =
     let r = c .before .before .before in
-    let g = r .before .before .before .args in
-    tells-refused _ _ _ (r .read .result .answer) _ (c .refused .ensures) (c .before .enum-told2 .given .1)
-    (not-read (g .stamp .now) (g .out .now) (r .read .result) (r .read .ensures) _ (c .before .enum-told2 .given .1))
+    let g = start r .args in
+    let no = c .before .enum-told2 .given .1 in
+    tells-refused _ _ _ (r .read-in .result .answer) _ (c .refused .ensures) no (not-read (g .stamp .now) (g .out .now) (got r) (is-got r) _ no)
 
-update-requires : tie.Need-update-requires
-update-requires c κs = search needs
+-- there are as many words as the id has strings
+module _ (c : tie.After-enum-told) where
+  abbrev read : tie.After-read-in
+  read = c .before .before
 
-write-requires : tie.Need-write-requires
-write-requires c κs = search needs
+  lawful : isStored narrow (got read .stamp) ≡ true
+  lawful = is-read (start read .args .stamp .now) (start read .args .out .now) (got read) (is-got read) (c .enum-told .given .1)
+
+  inside : got read .stamp .id .count ≤ length (got read .stamp .id .words)
+  inside = stored-inside (got read .stamp .id) (stored-names narrow (got read .stamp) lawful .1)
+
+array-share-prefix-i : tie.Need-array-share-prefix-i
+array-share-prefix-i c = inside c
+
+slice-aggregate-write-alike : tie.Need-slice-aggregate-write-alike
+slice-aggregate-write-alike c =
+    let e = c .before in
+    sym (length-take-le (got (read e) .stamp .id .count) (got (read e) .stamp .id .words) (inside e))
+
+write-alike-requires : tie.Need-write-alike-requires
+write-alike-requires c κs = search needs
 
 same-length : tie.Need-same-length
 same-length c = search needs
@@ -59,22 +109,22 @@ same-length c = search needs
 returns-2 : tie.Need-returns-2
 returns-2 c =
     let w = c .before .before in
-    let u = w .before .before .before in
-    let r = u .before .before .before .before in
-    let g = r .before .before .before .args in
-    tells-same _ _ _ _ (writes (g .stamp .now) (g .out .now) (r .read .result) (r .read .ensures) (u .update .result) (u .before .before .enum-told .given .1) (u .update .ensures))
-    (w .write .ensures)
+    let e = w .before .before .before in
+    let r = read e in
+    let g = start r .args in
+    tells-same _ _ _ _ (writes (g .stamp .now) (g .out .now) (got r) (is-got r) (e .enum-told .given .1)) (w .write-alike .ensures)
 
 pub update-spec : {M : Type 1} → statement M
 update-spec =
     tie.close
     (tie.spec
-    read-requires
+    read-in-requires
     enum-told
     enum-told-2
     refused-requires
     returns
-    update-requires
-    write-requires
+    array-share-prefix-i
+    slice-aggregate-write-alike
+    write-alike-requires
     same-length
     returns-2)

@@ -4,30 +4,22 @@ use mathlib.Core.Bool.{true, false}
 use mathlib.Core.List.{List}
 use Prim.Native.Nat.{ℕ}
 use borrow.Author.Needs.{needs}
-use lib.ListN.{take}
 use lib.Seq.{length-take-le}
 use Rattle.rules.specs.Limits.{narrow}
-use Rattle.rules.specs.Stored.{strsIn, held, isStored, unlawful}
+use Rattle.rules.specs.Stored.{isStored, unlawful}
 use Rattle.rules.specs.Refusals.{first}
 use Rattle.rules.specs.Packed.{wrote, writtenStamp}
 use Rattle.rules.specs.declared.Record.{Record}
 use Rattle.rules.specs.declared.Refusal.the-variants.{Unlawful}
 use Rattle.rules.specs.declared.Written.the-variants.{Refused as NotWritten}
 use Rattle.stamps.proofs.Laws.{stored-names}
-use Rattle.packed.specs.Fits.{writtenNames}
-use Rattle.packed.proofs.Writing.{stored-fits, stored-inside, both}
+use Rattle.packed.proofs.Writing.{written-is, stored-inside, both}
 use Rattle.packed.proofs.write.Statement.{statement}
 use Rattle.packed.proofs.write.Tie as tie
 
 not-lawful : (r : Record) (l : List ℕ) → isStored narrow r ≡ false → writtenStamp narrow r l ≡ record { answer = NotWritten Unlawful; out = l }
 unfolding writtenStamp unlawful first wrote
 not-lawful r l e = rw e
-
--- what is written of the record is what is written of its words
-written-is : (r : Record) (l : List ℕ) → isStored narrow r ≡ true
-    → writtenStamp narrow r l ≡ writtenNames narrow (take (r .update .count) (r .update .words)) (take (r .id .count) (r .id .words)) l
-unfolding writtenStamp writtenNames unlawful held strsIn
-written-is r l h = rw (h, stored-fits r h)
 
 is-lawful-requires : tie.Need-is-lawful-requires
 is-lawful-requires c κs = search needs

@@ -3,25 +3,15 @@ use borrow.Author.Needs.{needs}
 use mathlib.Core.Path.{_≡_, sym, ap, _∙_}
 use mathlib.Core.Bool.{true, false}
 use Rattle.rules.specs.Limits.{Limits, narrow}
-use Rattle.rules.specs.Stamps.{update}
-use Rattle.rules.specs.Stored.{stored, held, isStored, unlawful, blank}
+use Rattle.rules.specs.Stored.{isStored, unlawful, blank}
 use Rattle.rules.specs.Refusals.{first}
 use Rattle.rules.specs.Values.{updated}
-use Rattle.rules.specs.declared.Words.{Words}
 use Rattle.rules.specs.declared.Record.{Record}
-use Rattle.rules.specs.declared.Given.{Given}
 use Rattle.rules.specs.declared.Refusal.the-variants.{Unlawful}
-use Rattle.rules.specs.declared.Answer.the-variants.{Done, Refused}
-use Rattle.laws.proofs.Stored.{stored-is}
+use Rattle.rules.specs.declared.Answer.the-variants.{Refused}
+use Rattle.stamps.proofs.Laws.{updated-is}
 use Rattle.stamps.proofs.update.Statement.{statement}
 use Rattle.stamps.proofs.update.Tie as tie
-
-abbrev given : Words → Given
-given i = record { answer = Done; stamp = record { update = i; id = i } }
-
-done : (L : Limits) (r : Record) → isStored L r ≡ true → given (r .id) ≡ updated L r
-unfolding updated first unlawful update held stored
-done L r e = rw e (ap (λ (x : Record). given (x .id)) (stored-is L r e))
 
 refused : (L : Limits) (r : Record) (z : Record) → isStored L r ≡ false → z ≡ blank L → record { answer = Refused Unlawful; stamp = z } ≡ updated L r
 unfolding updated first unlawful
@@ -31,7 +21,7 @@ lawful-in-requires : tie.Need-lawful-in-requires
 lawful-in-requires c κs = search needs
 
 returns : tie.Need-returns
-returns c = let a = c .before .before in done narrow (a .before .before .before .before .before .before .args .t1) (sym (a .lawful-in .ensures) ∙ c .before .if1 .taken)
+returns c = let a = c .before .before in updated-is narrow (a .before .before .before .before .before .before .args .t1) (sym (a .lawful-in .ensures) ∙ c .before .if1 .taken)
 
 nothing-requires : tie.Need-nothing-requires
 nothing-requires c κs = search needs
