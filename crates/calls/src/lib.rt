@@ -1,23 +1,31 @@
 // The packed calls: update, fork, join and compare on lent bytes, and which of two to keep.
 // Refusals come in the order 1 and 2 for the first stamp, 1 and 2 for the second, 8, 9, 6, 7, 10.
 ghost use mathlib.Core.Path.{_≡_};
+ghost use mathlib.Core.Bool.{true, false};
 ghost use mathlib.Core.List.{[]};
+ghost use lib.ListN.{take, replicate};
 ghost use Rattle.rules.specs.Limits.{narrow};
+ghost use Rattle.rules.specs.Stamps.{append};
+ghost use Rattle.rules.specs.Stored.{strsIn, wordsOf};
 ghost use Rattle.rules.specs.Packed.{wrote, comparedAfter, packedUpdate, packedFork, packedJoin, packedCompare, sideOf};
 ghost use Rattle.rules.specs.declared.Verdict.the-variants.{Equal};
 ghost use Rattle.rules.specs.declared.Compared.the-variants.{Is};
+ghost use Rattle.stamps.specs.Lent.{name, Named};
+ghost use Rattle.walks.specs.Walks.{isLong};
 ghost use Rattle.packed.specs.Fits.{writtenNames};
 ghost use Rattle.calls.specs.Keep.{keptIs};
 use packed::read;
 use packed::read_in;
 use packed::size;
 use packed::write;
+use packed::write_both;
 use packed::write_from;
 use rules::Answer;
 use rules::Compared;
 use rules::Refusal;
 use rules::Verdict;
 use rules::Written;
+use walks::is_long;
 
 // The stamp after an edit, into out.
 pub fn update(stamp: &[u8], out: &mut [u8]) -> Written
@@ -38,28 +46,22 @@ pub fn update(stamp: &[u8], out: &mut [u8]) -> Written
 pub fn fork(stamp: &[u8], zero: &mut [u8], one: &mut [u8]) -> Written
     ensures { λ w. ⌜ (w ≡ packedFork narrow (now (stamp .entry)) (now (zero .entry)) (now (one .entry)) .answer) × (now (zero .exit) ≡ packedFork narrow (now (stamp .entry)) (now (zero .entry)) (now (one .entry)) .zero) × (now (one .exit) ≡ packedFork narrow (now (stamp .entry)) (now (zero .entry)) (now (one .entry)) .one) ⌝ }
 {
-    let g = read(stamp);
-    let a = g.answer;
+    let mut u = [0; 16];
+    let mut i = [0; 16];
+    let c = read_in(stamp, &mut u, &mut i);
+    let a = c.answer;
     let Answer::Done = a else {
         return refused(a);
     };
-    let s = g.stamp;
-    let f = stamps::fork(s);
-    let b = f.answer;
-    let Answer::Done = b else {
-        return refused(b);
-    };
-    let x = f.zero;
-    let y = f.one;
-    let n = size(x);
-    if zero.len() < n {
-        return Written::Refused(Refusal::Short);
+    let m = c.update;
+    let n = c.id;
+    if is_long(&i[..n]) {
+        return Written::Refused(Refusal::Long);
     }
-    if one.len() < n {
-        return Written::Refused(Refusal::Short);
-    }
-    write(x, zero);
-    write(y, one)
+    let mut x = [0; 16];
+    let mut y = [0; 16];
+    grow(&i, n, &mut x, &mut y);
+    write_both(&u[..m], &x[..n], &y[..n], zero, one)
 }
 
 // The join of the two, into out.
@@ -119,6 +121,22 @@ pub fn keep<'a>(first: &'a [u8], second: &'a [u8]) -> &'a [u8]
         Verdict::Obsolete => second,
         Verdict::Newer => first,
         Verdict::Conflict => &first[0..0],
+    }
+}
+
+// The id of n words with 0 appended to each string, and with 1: in a word the length grows by one, and the digit comes behind the others.
+fn grow(id: &[u64; 16], n: usize, zero: &mut [u64; 16], one: &mut [u64; 16])
+    requires { ⌜ Named n (now id) × (isLong (take n (now id)) ≡ false) × (now zero ≡ replicate 16 0) × (now one ≡ replicate 16 0) ⌝ }
+    ensures { λ _. ⌜ (name n (now (zero .exit)) ≡ wordsOf narrow (append false (strsIn (name n (now (id .entry))))))
+        × (name n (now (one .exit)) ≡ wordsOf narrow (append true (strsIn (name n (now (id .entry)))))) ⌝ }
+{
+    let mut k = 0;
+    while k < n {
+        let s = id[k];
+        let t = s + 1;
+        zero[k] = t;
+        one[k] = t + (1 << (63 - s % 64));
+        k += 1;
     }
 }
 

@@ -7,6 +7,7 @@ use Rattle.packed.proofs.read_in
 use Rattle.packed.proofs.write
 use Rattle.packed.proofs.size
 use Rattle.packed.proofs.write_from
+use Rattle.packed.proofs.write_both
 use Rattle.packed.proofs.size_of
 
 pub read-one-answer : OneAnswer read.ended (λ M 𝓤. read.clauses 𝓤) (λ M 𝓤. read.spec 𝓤)
@@ -28,3 +29,7 @@ write-from-one-answer M 𝓤 H A mem run =
 
 pub size-of-one-answer : OneAnswer size_of.ended (λ M 𝓤. size_of.clauses 𝓤) (λ M 𝓤. size_of.spec 𝓤)
 size-of-one-answer M 𝓤 H A mem run = (refl, λ κs a g h r s v w. both-say 𝓤 (λ e f. (agree e f, refl)))
+
+pub write-both-one-answer : OneAnswer write_both.ended (λ M 𝓤. write_both.clauses 𝓤) (λ M 𝓤. write_both.spec 𝓤)
+write-both-one-answer M 𝓤 H A mem run =
+    (refl, λ κs a g h r s v w. both-say 𝓤 (λ e f. (agree (e .0) (f .0), λ i. (tt, (tt, (tt, (agree (e .1) (f .1) i, (agree (e .2) (f .2) i, tt))))))))

@@ -1,6 +1,6 @@
 -- What the proofs of the writers cite: words that fit, bits behind bits in a word, and a byte behind bytes. Assumes nothing.
 use mathlib.Core.Path.{_≡_, refl, sym, ap, ap₂, _∙_, subst}
-use mathlib.Core.Bool.{Bool, true, _&&_}
+use mathlib.Core.Bool.{Bool, true, false, cond, _&&_}
 use mathlib.Core.List.{List, [], _∷_, _++_, map, append-assoc, append-nil}
 use Prim.Native.Nat.{ℕ, _+_, _*_, _-_, _%_, _^_, _≤_, _<_}
 use native.Mathlib.Nat.{add-zero, mod-lt}
@@ -16,7 +16,7 @@ use Rattle.rules.specs.Strings.{field, strOf}
 use Rattle.rules.specs.Names.{all, isName}
 use Rattle.rules.specs.Stamps.{lawful}
 use Rattle.rules.specs.Stored.{stored, strsIn, held, sameRecord, isStoredName, isStored, unlawful}
-use Rattle.rules.specs.Packed.{nameBits, bitsOf, Wrote, writtenStamp}
+use Rattle.rules.specs.Packed.{nameBits, packed, bitsOf, Wrote, WroteTwo, writtenStamp}
 use Rattle.rules.specs.declared.Record.{Record}
 use Rattle.rules.specs.declared.Words.{Words}
 use Rattle.laws.proofs.Tests.{and-left, and-right, and-both}
@@ -25,7 +25,7 @@ use Rattle.layout.proofs.Names.{allShort, named, lawful-names}
 use Rattle.stamps.proofs.Laws.{stored-few}
 use Rattle.names.proofs.Shape.{stored-full}
 use Rattle.packed.specs.Fits.{told, allFit, fitsName, fits, writtenNames}
-use Rattle.packed.proofs.Laws.{join-lt, field-join, name-length, strings-most}
+use Rattle.packed.proofs.Laws.{join-lt, field-join, name-length, stamp-length, strings-most}
 
 -- ---- words that fit
 
@@ -92,6 +92,28 @@ pub fit-tail : (w : ℕ) (n : List ℕ) → allFit narrow (w ∷ n) ≡ true →
 unfolding allFit all
 fit-tail w n h = and-right (leb (w % 64) 24) (allFit narrow n) h
 
+-- ---- a size tells whether the names fit
+
+module _ (u i : List ℕ) where
+  abbrev bytes : List ℕ
+  bytes = packed narrow (told u i)
+
+  module _ (n : ℕ) (is : n ≡ cond (fits narrow u i) (length bytes) 0) where
+    pub size-none : n ≡ 0 → fits narrow u i ≡ false
+    size-none z = by (fits narrow u i) refl where
+      by : (b : Bool) → fits narrow u i ≡ b → b ≡ false
+      by true e = absurd (omega (arith, z, rw e at is, stamp-length (told u i), name-length (map strOf u)))
+      by false e = refl
+
+    pub size-some : (n ≡ 0 → ⊥) → fits narrow u i ≡ true
+    size-some z = by (fits narrow u i) refl where
+      by : (b : Bool) → fits narrow u i ≡ b → b ≡ true
+      by true e = refl
+      by false e = absurd (z (rw e at is))
+
+    pub size-is : (n ≡ 0 → ⊥) → n ≡ length bytes
+    size-is z = rw (size-some z) at is
+
 -- the words that a stored name's count tells are among those that it has
 pub stored-inside : (n : Words) → isStoredName narrow n ≡ true → n .count ≤ length (n .words)
 stored-inside n h = omega (arith, stored-full narrow n h, stored-few narrow n h)
@@ -149,3 +171,7 @@ byte-put l at next x e r =
 -- the answer and what the buffer holds
 pub both : (w v : Wrote) → v ≡ w → (w .answer ≡ v .answer) × (w .out ≡ v .out)
 both w v e = (ap (λ (x : Wrote). x .answer) (sym e), ap (λ (x : Wrote). x .out) (sym e))
+
+-- the answer and what both buffers hold
+pub two : (w v : WroteTwo) → v ≡ w → (w .answer ≡ v .answer) × (w .zero ≡ v .zero) × (w .one ≡ v .one)
+two w v e = (ap (λ (x : WroteTwo). x .answer) (sym e), ap (λ (x : WroteTwo). x .zero) (sym e), ap (λ (x : WroteTwo). x .one) (sym e))

@@ -9,7 +9,7 @@ use Rattle.rules.specs.Strings.{lengths, strOf}
 use Rattle.rules.specs.Names.{all}
 use Rattle.rules.specs.Stamps.{Stamp}
 use Rattle.rules.specs.Refusals.{first}
-use Rattle.rules.specs.Packed.{Wrote, packed, wrote}
+use Rattle.rules.specs.Packed.{Wrote, WroteTwo, packed, wrote, wroteTwo}
 use Rattle.rules.specs.declared.Refusal.the-variants.{Unlawful}
 
 -- the stamp that the words of two names tell
@@ -30,3 +30,8 @@ fits L u i = fitsName L u && fitsName L i
 -- "writing a stamp checks 2, then 10": of 2 only what the layout needs
 unfoldable pub writtenNames : Limits → List ℕ → List ℕ → List ℕ → Wrote
 writtenNames L u i out = wrote (first ((not (fits L u i), Unlawful) ∷ [])) (packed L (told u i)) out
+
+-- "If either buffer is too short, neither is written": two stamps that have the update u
+unfoldable pub writtenBoth : Limits → List ℕ → List ℕ → List ℕ → List ℕ → List ℕ → WroteTwo
+writtenBoth L u x y zero one =
+    wroteTwo (first ((not (fits L u x), Unlawful) ∷ (not (fits L u y), Unlawful) ∷ [])) (packed L (told u x)) (packed L (told u y)) zero one

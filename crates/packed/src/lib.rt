@@ -16,7 +16,7 @@ ghost use Rattle.packed.specs.Reading.{countsOf, lentTo, AreNames, toldB
 use reading::names_in;
 ghost use mathlib.Core.List.{_++_, map};
 ghost use Rattle.layout.proofs.Bytes.{areBytes};
-ghost use Rattle.packed.specs.Fits.{told, allFit, fitsName, fits, writtenNames};
+ghost use Rattle.packed.specs.Fits.{told, allFit, fitsName, fits, writtenNames, writtenBoth};
 use names::STRINGS;
 use rules::Answer;
 use rules::Given;
@@ -132,6 +132,32 @@ pub fn write_from(update: &[u64], id: &[u64], out: &mut [u8]) -> Written
     }
     put_stamp(out, update, id);
     Written::Bytes(n)
+}
+
+// Two stamps of one update, with the ids x and y, at the front of zero and of one, and the rest kept: refused 2 where either cannot be laid out,
+// 10 where either buffer is too short; then neither is written.
+pub fn write_both(update: &[u64], x: &[u64], y: &[u64], zero: &mut [u8], one: &mut [u8]) -> Written
+    ensures { λ w. ⌜ (w ≡ writtenBoth narrow (now (update .entry)) (now (x .entry)) (now (y .entry)) (now (zero .entry)) (now (one .entry)) .answer)
+        × (now (zero .exit) ≡ writtenBoth narrow (now (update .entry)) (now (x .entry)) (now (y .entry)) (now (zero .entry)) (now (one .entry)) .zero)
+        × (now (one .exit) ≡ writtenBoth narrow (now (update .entry)) (now (x .entry)) (now (y .entry)) (now (zero .entry)) (now (one .entry)) .one) ⌝ }
+{
+    let m = size_of(update, x);
+    let n = size_of(update, y);
+    if m == 0 {
+        return Written::Refused(Refusal::Unlawful);
+    }
+    if n == 0 {
+        return Written::Refused(Refusal::Unlawful);
+    }
+    if zero.len() < m {
+        return Written::Refused(Refusal::Short);
+    }
+    if one.len() < n {
+        return Written::Refused(Refusal::Short);
+    }
+    put_stamp(zero, update, x);
+    put_stamp(one, update, y);
+    Written::Bytes(m)
 }
 
 // How many bytes two names in words take; 0 where they cannot be laid out.

@@ -14,10 +14,10 @@ use borrow.Author.Tests.{eqb-false}
 use Rattle.rules.specs.Limits.{Limits, narrow}
 use Rattle.rules.specs.Strings.{Str, _▹_, digit, wordOf, strOf, isWord}
 use Rattle.rules.specs.Names.{Name, any, all, rising, isName, below}
-use Rattle.rules.specs.Stamps.{pair, isNone, lawful, append, update}
+use Rattle.rules.specs.Stamps.{pair, isNone, lawful, append, update, fork}
 use Rattle.rules.specs.Stored.{wordsOf, stored, strsIn, held, sameWords, sameRecord, isStoredName, isStored, unlawful}
-use Rattle.rules.specs.Refusals.{first, touches, unknownTo}
-use Rattle.rules.specs.Values.{updated}
+use Rattle.rules.specs.Refusals.{first, long as tooLong, touches, unknownTo}
+use Rattle.rules.specs.Values.{updated, forked}
 use Rattle.rules.specs.declared.Answer.the-variants.{Done}
 use Rattle.rules.specs.declared.Words.{Words}
 use Rattle.rules.specs.declared.Record.{Record}
@@ -72,6 +72,15 @@ module _ (L : Limits) (r : Record) where
 pub updated-is : (L : Limits) (r : Record) → isStored L r ≡ true → record { answer = Done; stamp = record { update = r .id; id = r .id } } ≡ updated L r
 unfolding updated first unlawful update held stored
 updated-is L r e = rw e (ap (λ (x : Record). record { answer = Done; stamp = record { update = x .id; id = x .id } }) (stored-is L r e))
+
+-- what a fork makes of a stored record whose id can grow: the update twice, beside the id grown by 0 and by 1
+pub forked-is : (L : Limits) (r : Record) (i0 i1 : Words) → isStored L r ≡ true → any (λ t. eqb (length t) (L .digits)) (strsIn (r .id)) ≡ false
+    → i0 ≡ wordsOf L (append false (strsIn (r .id))) → i1 ≡ wordsOf L (append true (strsIn (r .id)))
+    → record { answer = Done; zero = record { update = r .update; id = i0 }; one = record { update = r .update; id = i1 } } ≡ forked L r
+unfolding forked first unlawful tooLong held fork stored
+forked-is L r i0 i1 e l p q =
+    let u = ap (λ (x : Record). x .update) (stored-is L r e) in
+    rw (e, l) (λ i. record { answer = Done; zero = record { update = u i; id = p i }; one = record { update = u i; id = q i } })
 
 -- ---- a stored name
 

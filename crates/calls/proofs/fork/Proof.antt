@@ -1,35 +1,42 @@
--- `calls::fork` meets its contract: what the reader refuses is passed out, then what the fork refuses. Both branches of a lawful stamp are
--- lawful and take the same number of bytes, so that one size decides for both buffers before either is written. Assumes nothing.
+-- `calls::fork` meets its contract: what the reader refuses is passed out, then an id that can grow no longer. Both branches of a lawful stamp
+-- are lawful, so that their words fit, and only the buffers are left to refuse. Assumes nothing.
 use mathlib.Core.Path.{_≡_, refl, sym, ap, _∙_}
-use mathlib.Core.Bool.{true, cond}
+use mathlib.Core.Bool.{true, false}
 use mathlib.Core.List.{List, []}
-use Prim.Native.Nat.{ℕ, _≤_, _<_}
+use Prim.Native.Nat.{ℕ, _≤_}
 use native.Mathlib.Omega.{arith}
 use borrow.Author.Needs.{needs}
-use borrow.Author.Tests.{lt-ltb, le-ltb}
-use lib.Dec.{lit≤}
-use lib.ListN.{length}
+use lib.Dec.{eqb, lit≤}
+use lib.ListN.{length, take}
+use lib.Seq.{length-take-le}
 use Rattle.rules.specs.Limits.{narrow}
-use Rattle.rules.specs.Stored.{held, isStored}
+use Rattle.rules.specs.Names.{any}
+use Rattle.rules.specs.Stamps.{append}
+use Rattle.rules.specs.Stored.{wordsOf, strsIn, held, isStored}
+use Rattle.rules.specs.Refusals.{first, long}
 use Rattle.rules.specs.Values.{forked}
-use Rattle.rules.specs.Packed.{Wrote, WroteTwo, packed, over, readStamp, wrote, wroteTwo, writtenStamp, packedFork}
+use Rattle.rules.specs.Packed.{packed, readStamp, wrote, wroteTwo, packedFork}
 use Rattle.rules.specs.declared.Given.{Given}
 use Rattle.rules.specs.declared.Forked.{Forked}
+use Rattle.rules.specs.declared.Record.{Record}
+use Rattle.rules.specs.declared.Words.{Words}
 use Rattle.rules.specs.declared.Refusal.{Refusal}
-use Rattle.rules.specs.declared.Refusal.the-variants.{Short}
+use Rattle.rules.specs.declared.Refusal.the-variants.{Long}
 use Rattle.rules.specs.declared.Answer.{Answer}
 use Rattle.rules.specs.declared.Answer.the-variants.{Done, Refused}
 use Rattle.rules.specs.declared.Written.{Written}
-use Rattle.rules.specs.declared.Written.the-variants.{Bytes, Refused as NotWritten}
-use Rattle.calls.proofs.Laws.{read-stored, forked-stored, written-fits}
+use Rattle.rules.specs.declared.Written.the-variants.{Refused as NotWritten}
+use Rattle.laws.proofs.Stored.{stored-not-unlawful}
+use Rattle.names.proofs.Shape.{stored-full}
+use Rattle.walks.specs.Walks.{isLong}
+use Rattle.walks.proofs.Tells as walks
+use Rattle.stamps.proofs.Laws.{stored-names, forked-is}
+use Rattle.packed.specs.Fits.{writtenBoth}
+use Rattle.packed.proofs.Lent.{givenBy, read-is}
+use Rattle.packed.proofs.Writing.{two, stored-inside, stored-fits}
+use Rattle.calls.proofs.Laws.{read-stored, forked-stored}
 use Rattle.calls.proofs.fork.Statement.{statement}
 use Rattle.calls.proofs.fork.Tie as tie
-
--- the call's answer, and what both buffers hold, are those of z
-tells : (z : WroteTwo) (v : Written) (a b : List ℕ) (w : Written) (x y : List ℕ) → z ≡ record { answer = v; zero = a; one = b } → w ≡ v → x ≡ a → y ≡ b
-    → (w ≡ z .answer) × (x ≡ z .zero) × (y ≡ z .one)
-tells z v a b w x y e p q r =
-    (p ∙ ap (λ (z : WroteTwo). z .answer) (sym e), q ∙ ap (λ (z : WroteTwo). z .zero) (sym e), r ∙ ap (λ (z : WroteTwo). z .one) (sym e))
 
 -- a refusal that was passed out
 passed : (w : Written) (a : Answer) (r : Refusal) → w ≡ wrote a [] [] .answer → a ≡ Refused r → w ≡ NotWritten r
@@ -41,50 +48,54 @@ module _ (s x y : List ℕ) (g : Given) (e : g ≡ readStamp narrow s) where
   unfolding packedFork wroteTwo
   not-read r t = rw (sym e, t)
 
-  module _ (p : g .answer ≡ Done) (f : Forked) (d : f ≡ forked narrow (g .stamp)) where
-    not-forked : (r : Refusal) → f .answer ≡ Refused r → packedFork narrow s x y ≡ record { answer = NotWritten r; zero = x; one = y }
-    unfolding packedFork wroteTwo
-    not-forked r t = rw (sym e, p, sym d, t)
+  module _ (p : g .answer ≡ Done) where
+    is-read : isStored narrow (g .stamp) ≡ true
+    is-read = read-stored narrow (lit≤ tt) s g e p
 
-    module _ (q : f .answer ≡ Done) where
-      abbrev P : List ℕ
-      P = packed narrow (held (f .zero))
+    too-long : isLong (take (g .stamp .id .count) (g .stamp .id .words)) ≡ true → packedFork narrow s x y ≡ record { answer = NotWritten Long; zero = x; one = y }
+    unfolding packedFork wroteTwo forked first long held strsIn
+    too-long l = rw (sym e, p, stored-not-unlawful narrow (g .stamp) is-read, sym (walks.long (take (g .stamp .id .count) (g .stamp .id .words))), l)
 
-      abbrev Q : List ℕ
-      Q = packed narrow (held (f .one))
+    module _ (l : isLong (take (g .stamp .id .count) (g .stamp .id .words)) ≡ false) (i0 i1 : Words)
+        (z : i0 ≡ wordsOf narrow (append false (strsIn (g .stamp .id)))) (o : i1 ≡ wordsOf narrow (append true (strsIn (g .stamp .id)))) where
+      abbrev branches : Forked
+      branches = record { answer = Done; zero = record { update = g .stamp .update; id = i0 }; one = record { update = g .stamp .update; id = i1 } }
 
-      branches : (isStored narrow (f .zero) ≡ true) × (isStored narrow (f .one) ≡ true) × (length P ≡ length Q)
-      branches = rw d (forked-stored narrow (lit≤ tt) (g .stamp) (read-stored narrow (lit≤ tt) s g e p) (rw (sym d) q))
+      short : any (λ t. eqb (length t) (narrow .digits)) (strsIn (g .stamp .id)) ≡ false
+      unfolding strsIn
+      short = sym (walks.long (take (g .stamp .id .count) (g .stamp .id .words))) ∙ l
 
-      module _ (n : ℕ) (m : n ≡ cond (isStored narrow (f .zero)) (length P) 0) where
-        sizes : (n ≡ length P) × (n ≡ length Q)
-        sizes = let z : n ≡ length P = m ∙ ap (λ b. cond b (length P) 0) (branches .0) in (z, z ∙ branches .2)
+      are-branches : branches ≡ forked narrow (g .stamp)
+      are-branches = forked-is narrow (g .stamp) i0 i1 is-read short z o
 
-        zero-short : length x < n → packedFork narrow s x y ≡ record { answer = NotWritten Short; zero = x; one = y }
-        unfolding packedFork wroteTwo
-        zero-short h = rw (sym e, p, sym d, q, lt-ltb (length x) (length P) (omega (arith, sizes .0)))
+      both-stored : (isStored narrow (branches .zero) ≡ true) × (isStored narrow (branches .one) ≡ true)
+      both-stored =
+          let f = forked-stored narrow (lit≤ tt) (g .stamp) is-read (ap (λ (w : Forked). w .answer) (sym are-branches)) in
+          (ap (λ (w : Forked). isStored narrow (w .zero)) are-branches ∙ f .0, ap (λ (w : Forked). isStored narrow (w .one)) are-branches ∙ f .1)
 
-        one-short : n ≤ length x → length y < n → packedFork narrow s x y ≡ record { answer = NotWritten Short; zero = x; one = y }
-        unfolding packedFork wroteTwo
-        one-short h k =
-            rw (sym e, p, sym d, q, le-ltb (length x) (length P) (omega (arith, sizes .0)), lt-ltb (length y) (length Q) (omega (arith, sizes .1)))
+      laid : writtenBoth narrow (take (g .stamp .update .count) (g .stamp .update .words)) (take (i0 .count) (i0 .words)) (take (i1 .count) (i1 .words)) x y
+          ≡ wroteTwo Done (packed narrow (held (branches .zero))) (packed narrow (held (branches .one))) x y
+      unfolding writtenBoth first held strsIn
+      laid = rw (stored-fits (branches .zero) (both-stored .0), stored-fits (branches .one) (both-stored .1))
 
-        fits : n ≤ length x → n ≤ length y → packedFork narrow s x y ≡ record { answer = Bytes (length P); zero = over P x; one = over Q y }
-        unfolding packedFork wroteTwo
-        fits h k =
-            rw (sym e, p, sym d, q, le-ltb (length x) (length P) (omega (arith, sizes .0)), le-ltb (length y) (length Q) (omega (arith, sizes .1)))
+      writes : writtenBoth narrow (take (g .stamp .update .count) (g .stamp .update .words)) (take (i0 .count) (i0 .words)) (take (i1 .count) (i1 .words)) x y
+          ≡ packedFork narrow s x y
+      unfolding packedFork
+      writes = laid ∙ rw (sym e, p, sym are-branches)
 
-        written : n ≤ length x → n ≤ length y → (w : Written) (a b : List ℕ) → a ≡ writtenStamp narrow (f .zero) x .out
-            → (w ≡ writtenStamp narrow (f .one) y .answer) × (b ≡ writtenStamp narrow (f .one) y .out)
-            → (w ≡ packedFork narrow s x y .answer) × (a ≡ packedFork narrow s x y .zero) × (b ≡ packedFork narrow s x y .one)
-        written h k w a b u v =
-            let o = written-fits narrow (lit≤ tt) (f .one) y (branches .1) (omega (arith, sizes .1)) in
-            let z = written-fits narrow (lit≤ tt) (f .zero) x (branches .0) (omega (arith, sizes .0)) in
-            tells _ _ _ _ w a b (fits h k) (v .0 ∙ ap (λ (t : Wrote). t .answer) o ∙ ap Bytes (sym (branches .2)))
-            (u ∙ ap (λ (t : Wrote). t .out) z) (v .1 ∙ ap (λ (t : Wrote). t .out) o)
+-- what was read, by value
+module _ (c : tie.After-read-in) where
+  abbrev start : tie.Start
+  start = c .before .before .before .before .before .before
 
-read-requires : tie.Need-read-requires
-read-requires c κs = search needs
+  abbrev got : Given
+  got = givenBy (c .read-in .result) (c .read-in .last .1 .0) (c .read-in .last .1 .1 .0)
+
+  is-got : got ≡ readStamp narrow (start .args .stamp .now)
+  is-got = read-is _ _ _ _ (c .read-in .ensures .0) (c .read-in .ensures .1) (c .read-in .ensures .2)
+
+read-in-requires : tie.Need-read-in-requires
+read-in-requires c κs = search needs
 
 enum-told : tie.Need-enum-told
 enum-told c = search needs
@@ -98,63 +109,97 @@ refused-requires c κs = search needs
 returns : tie.Need-returns
 returns c =
     let r = c .before .before .before in
-    let g = r .before .before .before .before .args in
+    let g = start r .args in
     let no = c .before .enum-told2 .given .1 in
-    tells _ _ _ _ _ _ _ (not-read (g .stamp .now) (g .zero .now) (g .one .now) (r .read .result) (r .read .ensures) _ no)
-    (passed _ (r .read .result .answer) _ (c .refused .ensures) no) refl refl
+    let w = two _ _ (not-read (g .stamp .now) (g .zero .now) (g .one .now) (got r) (is-got r) _ no) in
+    (passed _ (r .read-in .result .answer) _ (c .refused .ensures) no ∙ w .0, w .1, w .2)
 
-fork-requires : tie.Need-fork-requires
-fork-requires c κs = search needs
+-- a stamp was read: there are as many words as its names have strings
+module _ (c : tie.After-enum-told) where
+  abbrev read : tie.After-read-in
+  read = c .before .before
 
-enum-told-3 : tie.Need-enum-told-3
-enum-told-3 c = search needs
+  lawful : isStored narrow (got read .stamp) ≡ true
+  lawful = is-read (start read .args .stamp .now) (start read .args .zero .now) (start read .args .one .now) (got read) (is-got read) (c .enum-told .given .1)
 
-enum-told-4 : tie.Need-enum-told-4
-enum-told-4 c = search needs
+  inside : got read .stamp .id .count ≤ length (got read .stamp .id .words)
+  inside = stored-inside (got read .stamp .id) (stored-names narrow (got read .stamp) lawful .1)
 
-refused-requires-2 : tie.Need-refused-requires-2
-refused-requires-2 c κs = search needs
+  inside-update : got read .stamp .update .count ≤ length (got read .stamp .update .words)
+  inside-update = stored-inside (got read .stamp .update) (stored-names narrow (got read .stamp) lawful .0)
+
+array-share-prefix-i : tie.Need-array-share-prefix-i
+array-share-prefix-i c = inside c
+
+slice-aggregate-is-long : tie.Need-slice-aggregate-is-long
+slice-aggregate-is-long c = sym (length-take-le _ _ (inside (c .before)))
+
+is-long-requires : tie.Need-is-long-requires
+is-long-requires c κs = search needs
 
 returns-2 : tie.Need-returns-2
 returns-2 c =
-    let f = c .before .before .before in
-    let r = f .before .before .before .before in
-    let g = r .before .before .before .before .args in
-    let no = c .before .enum-told4 .given .1 in
-    tells _ _ _ _ _ _ _
-    (not-forked (g .stamp .now) (g .zero .now) (g .one .now) (r .read .result) (r .read .ensures) (f .before .before .enum-told .given .1)
-    (f .fork .result) (f .fork .ensures) _ no)
-    (passed _ (f .fork .result .answer) _ (c .refused2 .ensures) no) refl refl
+    let l = c .before in
+    let t = l .before .before in
+    let r = read t in
+    let g = start r .args in
+    two _ _
+    (too-long (g .stamp .now) (g .zero .now) (g .one .now) (got r) (is-got r) (t .enum-told .given .1) (sym (l .is-long .ensures) ∙ c .if1 .taken))
 
-size-requires : tie.Need-size-requires
-size-requires c κs = search needs
+grow-requires : tie.Need-grow-requires
+grow-requires c κs =
+    let e = c .before .before .before in
+    let l = e .before in
+    let t = l .before .before in
+    (stored-names narrow (got (read t) .stamp) (lawful t) .1, sym (l .is-long .ensures) ∙ e .if1 .left, refl, refl)
 
-returns-3 : tie.Need-returns-3
-returns-3 c =
-    let n = c .before in
-    let f = n .before .before .before .before .before in
-    let r = f .before .before .before .before in
-    let g = r .before .before .before .before .args in
-    tells _ _ _ _ _ _ _
-    (zero-short (g .stamp .now) (g .zero .now) (g .one .now) (r .read .result) (r .read .ensures) (f .before .before .enum-told .given .1)
-    (f .fork .result) (f .fork .ensures) (n .before .before .before .enum-told3 .given .1) (n .size .result) (n .size .ensures) (omega (arith, c .if1 .taken))) refl refl refl
+-- both ids are grown
+module _ (c : tie.After-grow) where
+  abbrev done : tie.After-enum-told
+  done = c .before .before .before .before .before .before .before
 
-returns-4 : tie.Need-returns-4
-returns-4 c =
-    let n = c .before .before in
-    let f = n .before .before .before .before .before in
-    let r = f .before .before .before .before in
-    let g = r .before .before .before .before .args in
-    tells _ _ _ _ _ _ _
-    (one-short (g .stamp .now) (g .zero .now) (g .one .now) (r .read .result) (r .read .ensures) (f .before .before .enum-told .given .1)
-    (f .fork .result) (f .fork .ensures) (n .before .before .before .enum-told3 .given .1) (n .size .result) (n .size .ensures)
-    (omega (arith, c .before .if1 .left)) (omega (arith, c .before .if1 .left, c .if2 .taken))) refl refl refl
+  abbrev zero-id : Words
+  zero-id = record { count = got (read done) .stamp .id .count; words = c .grow .last .1 .1 .0 }
 
-write-requires : tie.Need-write-requires
-write-requires c κs = search needs
+  abbrev one-id : Words
+  one-id = record { count = got (read done) .stamp .id .count; words = c .grow .last .1 .1 .1 .0 }
 
-write-requires-2 : tie.Need-write-requires-2
-write-requires-2 c κs = search needs
+  not-long : isLong (take (got (read done) .stamp .id .count) (got (read done) .stamp .id .words)) ≡ false
+  not-long = let e = c .before .before .before .before in sym (e .before .is-long .ensures) ∙ e .if1 .left
+
+  grown : (isStored narrow (record { update = got (read done) .stamp .update; id = zero-id }) ≡ true)
+      × (isStored narrow (record { update = got (read done) .stamp .update; id = one-id }) ≡ true)
+  grown =
+      let g = start (read done) .args in
+      both-stored (g .stamp .now) (g .zero .now) (g .one .now) (got (read done)) (is-got (read done)) (done .enum-told .given .1) not-long zero-id one-id
+      (c .grow .ensures .0) (c .grow .ensures .1)
+
+  zero-inside : zero-id .count ≤ length (zero-id .words)
+  zero-inside = stored-inside zero-id (stored-names narrow (record { update = got (read done) .stamp .update; id = zero-id }) (grown .0) .1)
+
+  one-inside : one-id .count ≤ length (one-id .words)
+  one-inside = stored-inside one-id (stored-names narrow (record { update = got (read done) .stamp .update; id = one-id }) (grown .1) .1)
+
+array-share-prefix-u : tie.Need-array-share-prefix-u
+array-share-prefix-u c = inside-update (done c)
+
+slice-aggregate-write-both : tie.Need-slice-aggregate-write-both
+slice-aggregate-write-both c = sym (length-take-le _ _ (inside-update (done (c .before))))
+
+array-share-prefix-x : tie.Need-array-share-prefix-x
+array-share-prefix-x c = zero-inside (c .before)
+
+slice-aggregate-write-both-2 : tie.Need-slice-aggregate-write-both-2
+slice-aggregate-write-both-2 c = sym (length-take-le _ _ (zero-inside (c .before .before)))
+
+array-share-prefix-y : tie.Need-array-share-prefix-y
+array-share-prefix-y c = one-inside (c .before .before)
+
+slice-aggregate-write-both-3 : tie.Need-slice-aggregate-write-both-3
+slice-aggregate-write-both-3 c = sym (length-take-le _ _ (one-inside (c .before .before .before)))
+
+write-both-requires : tie.Need-write-both-requires
+write-both-requires c κs = search needs
 
 same-length : tie.Need-same-length
 same-length c = search needs
@@ -162,38 +207,39 @@ same-length c = search needs
 same-length-2 : tie.Need-same-length-2
 same-length-2 c = search needs
 
-returns-5 : tie.Need-returns-5
-returns-5 c =
-    let w = c .before .before in
-    let z = w .before .before .before .before in
-    let n = z .before .before .before .before in
-    let f = n .before .before .before .before .before in
-    let r = f .before .before .before .before in
-    let g = r .before .before .before .before .args in
-    written (g .stamp .now) (g .zero .now) (g .one .now) (r .read .result) (r .read .ensures) (f .before .before .enum-told .given .1)
-    (f .fork .result) (f .fork .ensures) (n .before .before .before .enum-told3 .given .1) (n .size .result) (n .size .ensures)
-    (omega (arith, z .before .before .before .if1 .left)) (omega (arith, z .before .before .if2 .left)) (w .write2 .result) (z .write .last .1 .0) (w .write2 .last .1 .0)
-    (z .write .ensures .1) (w .write2 .ensures)
+returns-3 : tie.Need-returns-3
+returns-3 c =
+    let w = c .before .before .before .before in
+    let o = w .before .before .before .before .before .before in
+    let t = done o in
+    let r = read t in
+    let g = start r .args in
+    let same = two _ _
+    (sym (writes (g .stamp .now) (g .zero .now) (g .one .now) (got r) (is-got r) (t .enum-told .given .1) (not-long o) (zero-id o) (one-id o)
+    (o .grow .ensures .0) (o .grow .ensures .1))) in
+    (w .write-both .ensures .0 ∙ same .0, w .write-both .ensures .1 ∙ same .1, w .write-both .ensures .2 ∙ same .2)
 
 pub fork-spec : {M : Type 1} → statement M
 fork-spec =
     tie.close
     (tie.spec
-    read-requires
+    read-in-requires
     enum-told
     enum-told-2
     refused-requires
     returns
-    fork-requires
-    enum-told-3
-    enum-told-4
-    refused-requires-2
+    array-share-prefix-i
+    slice-aggregate-is-long
+    is-long-requires
     returns-2
-    size-requires
-    returns-3
-    returns-4
-    write-requires
-    write-requires-2
+    grow-requires
+    array-share-prefix-u
+    slice-aggregate-write-both
+    array-share-prefix-x
+    slice-aggregate-write-both-2
+    array-share-prefix-y
+    slice-aggregate-write-both-3
+    write-both-requires
     same-length
     same-length-2
-    returns-5)
+    returns-3)

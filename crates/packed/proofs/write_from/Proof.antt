@@ -1,43 +1,25 @@
 -- `packed::write_from` meets its contract: a size tells that the names fit, and the room is tested before a byte is written. Assumes nothing.
-use mathlib.Core.Path.{_≡_, refl, ap, _∙_}
-use mathlib.Core.Bool.{Bool, true, false, cond}
-use mathlib.Core.List.{List, map}
+use mathlib.Core.Path.{_≡_, ap, _∙_}
+use mathlib.Core.Bool.{true, false}
+use mathlib.Core.List.{List}
 use Prim.Native.Nat.{ℕ, _≤_, _<_}
 use native.Mathlib.Omega.{arith}
 use borrow.Author.Needs.{needs}
 use borrow.Author.Tests.{lt-ltb, le-ltb}
 use lib.ListN.{length}
 use Rattle.rules.specs.Limits.{narrow}
-use Rattle.rules.specs.Strings.{strOf}
 use Rattle.rules.specs.Refusals.{first}
 use Rattle.rules.specs.Packed.{packed, over, wrote}
 use Rattle.rules.specs.declared.Refusal.the-variants.{Unlawful, Short}
 use Rattle.rules.specs.declared.Written.the-variants.{Bytes, Refused as NotWritten}
 use Rattle.packed.specs.Fits.{told, fits, writtenNames}
-use Rattle.packed.proofs.Laws.{name-length, stamp-length}
-use Rattle.packed.proofs.Writing.{both}
+use Rattle.packed.proofs.Writing.{both, size-none, size-some, size-is}
 use Rattle.packed.proofs.write_from.Statement.{statement}
 use Rattle.packed.proofs.write_from.Tie as tie
 
 module _ (u i : List ℕ) where
   abbrev bytes : List ℕ
   bytes = packed narrow (told u i)
-
-  module _ (n : ℕ) (is : n ≡ cond (fits narrow u i) (length bytes) 0) where
-    none : n ≡ 0 → fits narrow u i ≡ false
-    none z = by (fits narrow u i) refl where
-      by : (b : Bool) → fits narrow u i ≡ b → b ≡ false
-      by true e = absurd (omega (arith, z, rw e at is, stamp-length (told u i), name-length (map strOf u)))
-      by false e = refl
-
-    some : (n ≡ 0 → ⊥) → fits narrow u i ≡ true
-    some z = by (fits narrow u i) refl where
-      by : (b : Bool) → fits narrow u i ≡ b → b ≡ true
-      by true e = refl
-      by false e = absurd (z (rw e at is))
-
-    size-is : (n ≡ 0 → ⊥) → n ≡ length bytes
-    size-is z = rw (some z) at is
 
   -- ---- the three ways
 
@@ -61,7 +43,7 @@ returns : tie.Need-returns
 returns c =
     let s = c .before in
     let g = s .before .before .before .before .args in
-    both _ _ (not-laid (g .update .now) (g .id .now) (g .out .now) (none (g .update .now) (g .id .now) _ (s .size-of .ensures) (c .if1 .taken)))
+    both _ _ (not-laid (g .update .now) (g .id .now) (g .out .now) (size-none (g .update .now) (g .id .now) _ (s .size-of .ensures) (c .if1 .taken)))
 
 returns-2 : tie.Need-returns-2
 returns-2 c =
@@ -70,7 +52,7 @@ returns-2 c =
     let u = g .update .now in
     let i = g .id .now in
     let there = c .before .if1 .left in
-    both _ _ (too-short u i (g .out .now) (some u i _ (s .size-of .ensures) there) (omega (arith, c .if2 .taken, size-is u i _ (s .size-of .ensures) there)))
+    both _ _ (too-short u i (g .out .now) (size-some u i _ (s .size-of .ensures) there) (omega (arith, c .if2 .taken, size-is u i _ (s .size-of .ensures) there)))
 
 put-stamp-requires : tie.Need-put-stamp-requires
 put-stamp-requires c κs =
@@ -79,7 +61,7 @@ put-stamp-requires c κs =
     let u = g .update .now in
     let i = g .id .now in
     let there = c .before .before .if1 .left in
-    (some u i _ (s .size-of .ensures) there, omega (arith, c .before .if2 .left, size-is u i _ (s .size-of .ensures) there))
+    (size-some u i _ (s .size-of .ensures) there, omega (arith, c .before .if2 .left, size-is u i _ (s .size-of .ensures) there))
 
 same-length : tie.Need-same-length
 same-length c = search needs
@@ -93,7 +75,7 @@ returns-3 c =
     let i = g .id .now in
     let there = p .before .before .before .if1 .left in
     let is = size-is u i _ (s .size-of .ensures) there in
-    let w = both _ _ (laid u i (g .out .now) (some u i _ (s .size-of .ensures) there) (omega (arith, p .before .before .if2 .left, is))) in
+    let w = both _ _ (laid u i (g .out .now) (size-some u i _ (s .size-of .ensures) there) (omega (arith, p .before .before .if2 .left, is))) in
     (ap Bytes is ∙ w .0, p .put-stamp .ensures ∙ w .1)
 
 pub write-from-spec : {M : Type 1} → statement M

@@ -1,25 +1,22 @@
 -- `stamps::fork` meets its contract: the tests in their order, a stored update kept as it is, and the id grown by 0 and by 1. Assumes nothing.
 use borrow.Author.Needs.{needs}
 use borrow.Author.Tests.{not-true, not-false}
-use mathlib.Core.Path.{_≡_, sym, ap, _∙_}
+use mathlib.Core.Path.{_≡_, sym, _∙_}
 use mathlib.Core.Bool.{Bool, true, false}
 use native.Mathlib.Omega.{arith}
 use lib.Dec.{eqb}
 use lib.ListN.{length}
 use Rattle.rules.specs.Limits.{Limits, narrow}
 use Rattle.rules.specs.Names.{any}
-use Rattle.rules.specs.Stamps.{append, fork}
-use Rattle.rules.specs.Stored.{wordsOf, stored, strsIn, held, isStored, unlawful, blank}
+use Rattle.rules.specs.Stored.{strsIn, held, isStored, unlawful, blank}
 use Rattle.rules.specs.Refusals.{first, long}
 use Rattle.rules.specs.Values.{forked}
-use Rattle.rules.specs.declared.Words.{Words}
 use Rattle.rules.specs.declared.Record.{Record}
 use Rattle.rules.specs.declared.Forked.{Forked}
 use Rattle.rules.specs.declared.Refusal.{Refusal}
 use Rattle.rules.specs.declared.Refusal.the-variants.{Unlawful, Long}
-use Rattle.rules.specs.declared.Answer.the-variants.{Done, Refused}
-use Rattle.laws.proofs.Stored.{stored-is}
-use Rattle.stamps.proofs.Laws.{stored-names}
+use Rattle.rules.specs.declared.Answer.the-variants.{Refused}
+use Rattle.stamps.proofs.Laws.{stored-names, forked-is}
 use Rattle.stamps.proofs.fork.Statement.{statement}
 use Rattle.stamps.proofs.fork.Tie as tie
 
@@ -38,13 +35,6 @@ module _ (L : Limits) (r : Record) where
   then-refused : (f : Forked) → isStored L r ≡ true → tooLong ≡ true → Zeros Long f → f ≡ forked L r
   unfolding forked first unlawful long held
   then-refused f e l z = rw (e, l) (λ i. record { answer = z .0 i; zero = z .1 i; one = z .2 i })
-
-  done : (i0 i1 : Words) → isStored L r ≡ true → tooLong ≡ false → i0 ≡ wordsOf L (append false (strsIn (r .id))) → i1 ≡ wordsOf L (append true (strsIn (r .id)))
-      → record { answer = Done; zero = record { update = r .update; id = i0 }; one = record { update = r .update; id = i1 } } ≡ forked L r
-  unfolding forked first unlawful long held fork stored
-  done i0 i1 e l p q =
-      let u = ap (λ (x : Record). x .update) (stored-is L r e) in
-      rw (e, l) (λ i. record { answer = Done; zero = record { update = u i; id = p i }; one = record { update = u i; id = q i } })
 
 lawful-in-requires : tie.Need-lawful-in-requires
 lawful-in-requires c κs = search needs
@@ -110,7 +100,7 @@ returns-3 c =
     let o = l .before .before .before .before in
     let a = o .before in
     let g = a .before .before .before .before .before .before in
-    done narrow (g .args .t1) (k .grown .result) (c .grown2 .result) (sym (a .lawful-in .ensures) ∙ not-false _ (o .if1 .left))
+    forked-is narrow (g .args .t1) (k .grown .result) (c .grown2 .result) (sym (a .lawful-in .ensures) ∙ not-false _ (o .if1 .left))
     (sym (l .long-in .ensures) ∙ n .if2 .left) (k .grown .ensures) (c .grown2 .ensures)
 
 pub fork-spec : {M : Type 1} → statement M
