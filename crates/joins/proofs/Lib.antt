@@ -1,4 +1,3 @@
 -- Laws that several proofs cite.
-pub mod Buffers
 pub mod Joining
 pub mod Unique

@@ -1,22 +1,11 @@
--- Words at the front of a buffer of zeros.
-use mathlib.Core.List.{List, _++_}
-use Prim.Native.Nat.{ℕ, _*_, _-_}
-use lib.ListN.{length, take, replicate}
+-- Words in a name's record.
+use mathlib.Core.List.{List}
+use Prim.Native.Nat.{ℕ}
+use lib.ListN.{length}
 use Rattle.rules.specs.Limits.{narrow}
 use Rattle.rules.specs.declared.Words.{Words}
+use Rattle.unions.specs.Unions.{cleared}
 
--- the strings of two names
-abbrev pub room : ℕ
-room = 2 * narrow .strings
-
--- these words, and zeros behind them, c in all
-abbrev pub filled : ℕ → List ℕ → List ℕ
-filled c l = l ++ replicate (c - length l) 0
-
--- the words of a name's record
-unfoldable pub front : Words → List ℕ
-front w = take (w .count) (w .words)
-
--- the name's record that holds these words
+-- the name's record that holds these words, and zeros behind them
 unfoldable pub words : List ℕ → Words
-words l = record { count = length l; words = filled (narrow .strings) l }
+words l = record { count = length l; words = cleared (narrow .strings) l }

@@ -1,4 +1,4 @@
-// Join of two stamps by value: the unions of both names in buffers of twice the room, then reduction, and only then the limit.
+// Join of two stamps by value: the unions of both names and reduction in buffers of twice the room, and only then the limit.
 ghost use mathlib.Core.Path.{_≡_};
 ghost use mathlib.Core.Bool.{true};
 ghost use mathlib.Core.List.{[], _∷_};
@@ -6,13 +6,13 @@ ghost use Prim.Native.Nat.{_≤_};
 ghost use lib.ListN.{length, take};
 ghost use Rattle.rules.specs.Limits.{narrow};
 ghost use Rattle.rules.specs.Stamps.{join};
-ghost use Rattle.rules.specs.Stored.{blank, held, isStored, isStoredName};
+ghost use Rattle.rules.specs.Stored.{blank, held, isStored};
 ghost use Rattle.rules.specs.Refusals.{first, many};
 ghost use Rattle.rules.specs.Values.{given, joined};
 ghost use Rattle.rules.specs.declared.Refusal.the-variants.{Many};
 ghost use Rattle.rules.specs.declared.Answer.the-variants.{Refused};
-ghost use Rattle.unions.specs.Unions.{united, unitedIn, liftedCount, liftedIn};
-ghost use Rattle.joins.specs.Buffers.{front, words};
+ghost use Rattle.unions.specs.Unions.{joinedCounts, joinedUpdateIn, joinedIdIn};
+ghost use Rattle.joins.specs.Buffers.{words};
 use names::STRINGS;
 use rules::Answer;
 use rules::Given;
@@ -20,9 +20,7 @@ use rules::Record;
 use rules::Refusal;
 use rules::Words;
 use stamps::meet;
-use unions::lift;
-use unions::reduce;
-use unions::unite;
+use unions::Joined;
 
 // A buffer has room for the strings of two names.
 const ROOM: usize = 32;
@@ -43,17 +41,25 @@ fn merged(a: Record, b: Record) -> Given
     requires { ⌜ (isStored narrow a ≡ true) × (isStored narrow b ≡ true) ⌝ }
     ensures { λ g. ⌜ g ≡ given narrow (first ((many narrow (join (held a) (held b)), Many) ∷ [])) (join (held a) (held b)) ⌝ }
 {
+    let mut u = [0u64; ROOM];
     let mut i = [0u64; ROOM];
-    let n = unite_names(a.id, b.id, &mut i);
-    let k = reduce(&mut i, n);
-    if STRINGS < k {
+    let c = join_in(
+        &a.update.words,
+        a.update.count,
+        &a.id.words,
+        a.id.count,
+        &b.update.words,
+        b.update.count,
+        &b.id.words,
+        b.id.count,
+        &mut u,
+        &mut i,
+    );
+    if STRINGS < c.id {
         return refused(Refusal::Many);
     }
-    let mut u = [0u64; ROOM];
-    let m = unite_names(a.update, b.update, &mut u);
-    let c = lift_in(&i, k, &mut u, m);
-    let update = narrowed(&u, c);
-    let id = narrowed(&i, k);
+    let update = narrowed(&u, c.update);
+    let id = narrowed(&i, c.id);
     let stamp = Record {
         update: update,
         id: id,
@@ -77,30 +83,25 @@ fn refused(r: Refusal) -> Given
     }
 }
 
-// The union of two names.
-fn unite_names(m: Words, n: Words, out: &mut [u64]) -> usize
-    requires { ⌜ (isStoredName narrow m ≡ true) × (isStoredName narrow n ≡ true) ⌝ }
-    ensures { λ r. ⌜ (r ≡ united (front m) (front n) (now (out .entry))) × (now (out .exit) ≡ unitedIn (front m) (front n) (now (out .entry))) ⌝ }
+// The join of two stamps whose names are the first words of what is lent.
+fn join_in<'a>(
+    u: &'a [u64],
+    uc: usize,
+    i: &'a [u64],
+    ic: usize,
+    v: &'a [u64],
+    vc: usize,
+    j: &'a [u64],
+    jc: usize,
+    update: &mut [u64],
+    id: &mut [u64],
+) -> Joined
+    requires { ⌜ (uc ≤ length (now u)) × (ic ≤ length (now i)) × (vc ≤ length (now v)) × (jc ≤ length (now j)) ⌝ }
+    ensures { λ r. ⌜ (r ≡ joinedCounts (take uc (now (u .entry))) (take ic (now (i .entry))) (take vc (now (v .entry))) (take jc (now (j .entry))) (now (update .entry)) (now (id .entry)))
+        × (now (update .exit) ≡ joinedUpdateIn (take uc (now (u .entry))) (take ic (now (i .entry))) (take vc (now (v .entry))) (take jc (now (j .entry))) (now (update .entry)) (now (id .entry)))
+        × (now (id .exit) ≡ joinedIdIn (take ic (now (i .entry))) (take jc (now (j .entry))) (now (id .entry))) ⌝ }
 {
-    unite_in(&m.words, m.count, &n.words, n.count, out)
-}
-
-// The union of the first words of m and of n.
-fn unite_in(m: &[u64], mc: usize, n: &[u64], nc: usize, out: &mut [u64]) -> usize
-    requires { ⌜ (mc ≤ length (now m)) × (nc ≤ length (now n)) ⌝ }
-    ensures { λ r. ⌜ (r ≡ united (take mc (now (m .entry))) (take nc (now (n .entry))) (now (out .entry)))
-        × (now (out .exit) ≡ unitedIn (take mc (now (m .entry))) (take nc (now (n .entry))) (now (out .entry))) ⌝ }
-{
-    unite(&m[..mc], &n[..nc], out)
-}
-
-// The first words of an update as reduction leaves them beside the first words of the reduced id.
-fn lift_in(id: &[u64], k: usize, u: &mut [u64], count: usize) -> usize
-    requires { ⌜ k ≤ length (now id) ⌝ }
-    ensures { λ r. ⌜ (r ≡ liftedCount (take k (now (id .entry))) (now (u .entry)) count)
-        × (now (u .exit) ≡ liftedIn (take k (now (id .entry))) (now (u .entry)) count) ⌝ }
-{
-    lift(&id[..k], u, count)
+    unions::join(&u[..uc], &i[..ic], &v[..vc], &j[..jc], update, id)
 }
 
 // The first words of a buffer as a name: no more of them than a name has strings.

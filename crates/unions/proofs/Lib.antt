@@ -6,6 +6,8 @@ pub mod Reducing
 pub mod Becoming
 pub mod Lifting
 pub mod Counts
+pub mod Buffers
+pub mod Joining
 pub mod Stores
 pub mod Turns
 pub mod Stacks

@@ -5,6 +5,7 @@ use Rattle.laws.proofs.Contracts.{agree, both-say}
 use Rattle.unions.proofs.unite
 use Rattle.unions.proofs.reduce
 use Rattle.unions.proofs.lift
+use Rattle.unions.proofs.join
 
 pub unite-one-answer : OneAnswer unite.ended (λ M 𝓤. unite.clauses 𝓤) (λ M 𝓤. unite.spec 𝓤)
 unite-one-answer M 𝓤 H A mem run = (refl, λ κs a g h r s v w. both-say 𝓤 (λ e f. (agree (e .0) (f .0), λ i. (tt, (tt, (agree (e .1) (f .1) i, tt))))))
@@ -14,3 +15,7 @@ reduce-one-answer M 𝓤 H A mem run = (refl, λ κs a g h r s v w. both-say �
 
 pub lift-one-answer : OneAnswer lift.ended (λ M 𝓤. lift.clauses 𝓤) (λ M 𝓤. lift.spec 𝓤)
 lift-one-answer M 𝓤 H A mem run = (refl, λ κs a g h r s v w. both-say 𝓤 (λ e f. (agree (e .0) (f .0), λ i. (tt, (agree (e .1) (f .1) i, (tt, tt))))))
+
+pub join-one-answer : OneAnswer join.ended (λ M 𝓤. join.clauses 𝓤) (λ M 𝓤. join.spec 𝓤)
+join-one-answer M 𝓤 H A mem run =
+    (refl, λ κs a g h r s v w. both-say 𝓤 (λ e f. (agree (e .0) (f .0), λ i. (tt, (tt, (tt, (tt, (agree (e .1) (f .1) i, (agree (e .2) (f .2) i, tt)))))))))

@@ -7,6 +7,7 @@ use lib.Dec.{eqb, leb, ltb}
 use lib.ListN.{length, getD, take, replicate}
 use Rattle.rules.specs.Strings.{prefix, siblings, strOf}
 use Rattle.rules.specs.Packed.{over}
+use Rattle.unions.specs.declared.Joined.{Joined}
 
 -- the string of s is a prefix of that of t
 abbrev pub prefixW : ℕ → ℕ → Bool
@@ -119,6 +120,29 @@ liftedCount id u count = frontCount u count (lifted id (take count u))
 
 unfoldable pub liftedIn : List ℕ → List ℕ → ℕ → List ℕ
 liftedIn id u count = frontIn u count (lifted id (take count u))
+
+-- ---- the join of the stamps [u|i] and [v|j]
+
+-- the union of both ids, reduced: how many words, and the buffer
+unfoldable pub joinedIds : List ℕ → List ℕ → List ℕ → ℕ
+joinedIds i j id = reducedCount (unitedIn i j id) (united i j id)
+
+unfoldable pub joinedIdIn : List ℕ → List ℕ → List ℕ → List ℕ
+joinedIdIn i j id = reducedIn (unitedIn i j id) (united i j id)
+
+-- its words
+unfoldable pub joinedId : List ℕ → List ℕ → List ℕ → List ℕ
+joinedId i j id = take (joinedIds i j id) (joinedIdIn i j id)
+
+-- the union of both updates, lifted beside it: how many words of each, and the update's buffer
+unfoldable pub joinedCounts : List ℕ → List ℕ → List ℕ → List ℕ → List ℕ → List ℕ → Joined
+joinedCounts u i v j update id = record {
+  update = liftedCount (joinedId i j id) (unitedIn u v update) (united u v update);
+  id = joinedIds i j id;
+}
+
+unfoldable pub joinedUpdateIn : List ℕ → List ℕ → List ℕ → List ℕ → List ℕ → List ℕ → List ℕ
+joinedUpdateIn u i v j update id = liftedIn (joinedId i j id) (unitedIn u v update) (united u v update)
 
 -- ---- what the private functions do
 

@@ -3,9 +3,37 @@ ghost use mathlib.Core.Path.{_≡_};
 ghost use Prim.Native.Nat.{_≤_, _<_, _+_, _-_};
 ghost use lib.ListN.{length, drop, replicate};
 ghost use lib.Seq.{sets};
-ghost use Rattle.unions.specs.Unions.{opt, stack, united, unitedIn, push, reducedCount, reducedIn, seek, root, onceOn, liftedCount, liftedIn};
+ghost use Rattle.unions.specs.Unions.{opt, stack, united, unitedIn, push, reducedCount, reducedIn, seek, root, onceOn, liftedCount, liftedIn, joinedCounts, joinedUpdateIn, joinedIdIn};
 use strings::are_siblings;
 use strings::is_prefix;
+
+// How many words the update and the id of a join have.
+pub struct Joined {
+    pub update: usize,
+    pub id: usize,
+}
+
+// The join of the stamps [u|i] and [v|j]: the union of both ids, reduced, at the front of `id`, and the union of both updates, lifted beside it, at the
+// front of `update`; zeros in the place of what reduction takes away, and the rest of both buffers stays. Gives how many words each has.
+// A buffer has to have room for the words of both names. Where it has not, it stays as it is, and its count is 0.
+pub fn join(
+    u: &[u64],
+    i: &[u64],
+    v: &[u64],
+    j: &[u64],
+    update: &mut [u64],
+    id: &mut [u64],
+) -> Joined
+    ensures { λ r. ⌜ (r ≡ joinedCounts (now (u .entry)) (now (i .entry)) (now (v .entry)) (now (j .entry)) (now (update .entry)) (now (id .entry)))
+        × (now (update .exit) ≡ joinedUpdateIn (now (u .entry)) (now (i .entry)) (now (v .entry)) (now (j .entry)) (now (update .entry)) (now (id .entry)))
+        × (now (id .exit) ≡ joinedIdIn (now (i .entry)) (now (j .entry)) (now (id .entry))) ⌝ }
+{
+    let n = unite(i, j, id);
+    let k = reduce(id, n);
+    let m = unite(u, v, update);
+    let c = lift(&id[..k], update, m);
+    Joined { update: c, id: k }
+}
 
 // The union of m and n at the front of the buffer; the rest of it stays. Gives how many words are written.
 // The buffer has to have room for the words of both. Where it has not, nothing is written, and 0 given.

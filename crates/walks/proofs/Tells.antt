@@ -18,8 +18,8 @@ use Rattle.rules.specs.Refusals.{touches, unknownTo}
 use Rattle.laws.proofs.Tests.{not-true, and-left, and-right, none-any}
 use Rattle.laws.proofs.Rising.{less-trans, less-apart, rising-head, rising-tail}
 use Rattle.laws.proofs.Pairs.{firstTwins, neighbour-pair}
+use Rattle.strings.proofs.Order.{prefix-le, less-lt, le-less}
 use Rattle.walks.specs.Walks.{strs, atLeast, heads, belowWalk, touchWalk, unknownWalk, hasTwins, isLong}
-use Rattle.walks.proofs.Order.{prefix-le, less-lt, le-less}
 
 -- what is passed for s is passed for any word not below s
 skip : (s r : ℕ) (n : List ℕ) → s ≤ r → atLeast r (atLeast s n) ≡ atLeast r n

@@ -9,7 +9,7 @@ use lib.Seq.{sets, getD-take, length-take-le}
 use Rattle.rules.specs.Limits.{narrow}
 use Rattle.unions.proofs.Stores.{copy-step}
 use Rattle.joins.specs.Buffers.{words}
-use Rattle.joins.proofs.Buffers.{sets-filled}
+use Rattle.unions.proofs.Buffers.{sets-cleared}
 use Rattle.joins.proofs.narrowed.Statement.{statement}
 use Rattle.joins.proofs.narrowed.Tie as tie
 
@@ -65,7 +65,7 @@ returns c =
     let n : length t ≡ g .args .c = length-take-le (g .args .c) (g .args .w .now) (g .pre .1) in
     let p = l .loop .inv .1 ∙ sym n in
     let q = end (g .args .w .now) (l .loop .out .words) _ (l .loop .i) (g .args .c) (omega arith) (g .pre .1) (l .loop .inv .2)
-    ∙ sets-filled (narrow .strings) t (omega (arith, n)) in
+    ∙ sets-cleared (narrow .strings) t (omega (arith, n)) in
     λ i. record { count = p i; words = q i }
 
 pub narrowed-spec : {M : Type 1} → statement M
