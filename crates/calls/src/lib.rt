@@ -6,14 +6,16 @@ ghost use mathlib.Core.List.{[]};
 ghost use lib.ListN.{take, replicate};
 ghost use Rattle.rules.specs.Limits.{narrow};
 ghost use Rattle.rules.specs.Stamps.{append};
-ghost use Rattle.rules.specs.Stored.{strsIn, wordsOf};
+ghost use Rattle.rules.specs.Stored.{isStored, strsIn, wordsOf};
 ghost use Rattle.rules.specs.Packed.{wrote, comparedAfter, packedUpdate, packedFork, packedJoin, packedCompare, sideOf};
 ghost use Rattle.rules.specs.declared.Verdict.the-variants.{Equal};
 ghost use Rattle.rules.specs.declared.Compared.the-variants.{Is};
-ghost use Rattle.stamps.specs.Lent.{name, Named};
+ghost use Rattle.stamps.specs.Lent.{name, stamp, Named};
 ghost use Rattle.walks.specs.Walks.{isLong};
 ghost use Rattle.packed.specs.Fits.{writtenNames};
+ghost use Rattle.calls.specs.Joins.{wroteJoin};
 ghost use Rattle.calls.specs.Keep.{keptIs};
+use names::STRINGS;
 use packed::read;
 use packed::read_in;
 use packed::size;
@@ -26,6 +28,9 @@ use rules::Refusal;
 use rules::Verdict;
 use rules::Written;
 use walks::is_long;
+
+// A buffer has room for the strings of two names.
+const ROOM: usize = 32;
 
 // The stamp after an edit, into out.
 pub fn update(stamp: &[u8], out: &mut [u8]) -> Written
@@ -138,6 +143,40 @@ fn grow(id: &[u64; 16], n: usize, zero: &mut [u64; 16], one: &mut [u64; 16])
         one[k] = t + (1 << (63 - s % 64));
         k += 1;
     }
+}
+
+// The join of two lawful stamps, where the reduced id has no more strings than a name has.
+fn write_joined<'a>(
+    u: &'a [u64],
+    uc: usize,
+    i: &'a [u64],
+    ic: usize,
+    v: &'a [u64],
+    vc: usize,
+    j: &'a [u64],
+    jc: usize,
+    out: &mut [u8],
+) -> Written
+    requires { ⌜ (isStored narrow (stamp uc (now u) ic (now i)) ≡ true) × (isStored narrow (stamp vc (now v) jc (now j)) ≡ true) ⌝ }
+    ensures { λ w. ⌜ (w ≡ wroteJoin (stamp uc (now (u .entry)) ic (now (i .entry))) (stamp vc (now (v .entry)) jc (now (j .entry))) (now (out .entry)) .answer)
+        × (now (out .exit) ≡ wroteJoin (stamp uc (now (u .entry)) ic (now (i .entry))) (stamp vc (now (v .entry)) jc (now (j .entry))) (now (out .entry)) .out) ⌝ }
+{
+    let mut update = [0u64; ROOM];
+    let mut id = [0u64; ROOM];
+    let k = unions::join(
+        &u[..uc],
+        &i[..ic],
+        &v[..vc],
+        &j[..jc],
+        &mut update,
+        &mut id,
+    );
+    let m = k.update;
+    let n = k.id;
+    if STRINGS < n {
+        return Written::Refused(Refusal::Many);
+    }
+    write_from(&update[..m], &id[..n], out)
 }
 
 // The stamp whose update is its id.
