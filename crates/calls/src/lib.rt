@@ -7,6 +7,8 @@ ghost use lib.ListN.{take, replicate};
 ghost use Rattle.rules.specs.Limits.{narrow};
 ghost use Rattle.rules.specs.Stamps.{append};
 ghost use Rattle.rules.specs.Stored.{isStored, strsIn, wordsOf};
+ghost use Rattle.rules.specs.Refusals.{first};
+ghost use Rattle.rules.specs.Values.{compared, meeting};
 ghost use Rattle.rules.specs.Packed.{wrote, comparedAfter, packedUpdate, packedFork, packedJoin, packedCompare, sideOf};
 ghost use Rattle.rules.specs.declared.Verdict.the-variants.{Equal};
 ghost use Rattle.rules.specs.declared.Compared.the-variants.{Is};
@@ -16,10 +18,7 @@ ghost use Rattle.packed.specs.Fits.{writtenNames};
 ghost use Rattle.calls.specs.Joins.{wroteJoin};
 ghost use Rattle.calls.specs.Keep.{keptIs};
 use names::STRINGS;
-use packed::read;
 use packed::read_in;
-use packed::size;
-use packed::write;
 use packed::write_both;
 use packed::write_from;
 use rules::Answer;
@@ -73,44 +72,52 @@ pub fn fork(stamp: &[u8], zero: &mut [u8], one: &mut [u8]) -> Written
 pub fn join(first: &[u8], second: &[u8], out: &mut [u8]) -> Written
     ensures { λ w. ⌜ (w ≡ packedJoin narrow (now (first .entry)) (now (second .entry)) (now (out .entry)) .answer) × (now (out .exit) ≡ packedJoin narrow (now (first .entry)) (now (second .entry)) (now (out .entry)) .out) ⌝ }
 {
-    let g = read(first);
-    let a = g.answer;
+    let mut u = [0; 16];
+    let mut i = [0; 16];
+    let c = read_in(first, &mut u, &mut i);
+    let a = c.answer;
     let Answer::Done = a else {
         return refused(a);
     };
-    let h = read(second);
-    let b = h.answer;
+    let mut v = [0; 16];
+    let mut j = [0; 16];
+    let d = read_in(second, &mut v, &mut j);
+    let b = d.answer;
     let Answer::Done = b else {
         return refused(b);
     };
-    let s = g.stamp;
-    let t = h.stamp;
-    let j = joins::join(s, t);
-    let c = j.answer;
-    let Answer::Done = c else {
-        return refused(c);
+    let m = met(
+        &u, c.update, &i, c.id, &v, d.update, &j, d.id,
+    );
+    let Answer::Done = m else {
+        return refused(m);
     };
-    let u = j.stamp;
-    write(u, out)
+    write_joined(
+        &u, c.update, &i, c.id, &v, d.update, &j, d.id, out,
+    )
 }
 
 // How the first stands to the second.
 pub fn compare(first: &[u8], second: &[u8]) -> Compared
     ensures { λ c. ⌜ c ≡ packedCompare narrow (now (first .entry)) (now (second .entry)) ⌝ }
 {
-    let p = read(first);
-    let a = p.answer;
+    let mut u = [0; 16];
+    let mut i = [0; 16];
+    let c = read_in(first, &mut u, &mut i);
+    let a = c.answer;
     let Answer::Done = a else {
         return uncompared(a);
     };
-    let q = read(second);
-    let b = q.answer;
+    let mut v = [0; 16];
+    let mut j = [0; 16];
+    let d = read_in(second, &mut v, &mut j);
+    let b = d.answer;
     let Answer::Done = b else {
         return uncompared(b);
     };
-    let s = p.stamp;
-    let t = q.stamp;
-    stamps::compare(s, t)
+    told(
+        &u, c.update, &i, c.id, &v, d.update, &j, d.id,
+    )
 }
 
 // The one to keep, itself: the first if equal or newer, the second if the first is obsolete; an empty part of the first on conflict or refusal.
@@ -143,6 +150,40 @@ fn grow(id: &[u64; 16], n: usize, zero: &mut [u64; 16], one: &mut [u64; 16])
         one[k] = t + (1 << (63 - s % 64));
         k += 1;
     }
+}
+
+// What two lawful stamps that meet are refused for.
+fn met<'a>(
+    u: &'a [u64],
+    uc: usize,
+    i: &'a [u64],
+    ic: usize,
+    v: &'a [u64],
+    vc: usize,
+    j: &'a [u64],
+    jc: usize,
+) -> Answer
+    requires { ⌜ (isStored narrow (stamp uc (now u) ic (now i)) ≡ true) × (isStored narrow (stamp vc (now v) jc (now j)) ≡ true) ⌝ }
+    ensures { λ r. ⌜ r ≡ first (meeting narrow (stamp uc (now (u .entry)) ic (now (i .entry))) (stamp vc (now (v .entry)) jc (now (j .entry))) []) ⌝ }
+{
+    walks::meet(&u[..uc], &i[..ic], &v[..vc], &j[..jc])
+}
+
+// How a lawful stamp stands to another.
+fn told<'a>(
+    u: &'a [u64],
+    uc: usize,
+    i: &'a [u64],
+    ic: usize,
+    v: &'a [u64],
+    vc: usize,
+    j: &'a [u64],
+    jc: usize,
+) -> Compared
+    requires { ⌜ (isStored narrow (stamp uc (now u) ic (now i)) ≡ true) × (isStored narrow (stamp vc (now v) jc (now j)) ≡ true) ⌝ }
+    ensures { λ c. ⌜ c ≡ compared narrow (stamp uc (now (u .entry)) ic (now (i .entry))) (stamp vc (now (v .entry)) jc (now (j .entry))) ⌝ }
+{
+    walks::compare(&u[..uc], &i[..ic], &v[..vc], &j[..jc])
 }
 
 // The join of two lawful stamps, where the reduced id has no more strings than a name has.
