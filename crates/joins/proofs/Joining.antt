@@ -22,10 +22,11 @@ use Rattle.rules.specs.declared.Given.{Given}
 use Rattle.rules.specs.declared.Refusal.the-variants.{Many}
 use Rattle.rules.specs.declared.Answer.the-variants.{Done, Refused}
 use Rattle.laws.proofs.Tests.{In, all-each}
+use Rattle.strings.proofs.Order.{word-is}
 use Rattle.stamps.proofs.Laws.{stored-names, stored-few}
 use Rattle.names.proofs.Shape.{stored-full}
 use Rattle.unions.specs.declared.Joined.{Joined}
-use Rattle.unions.proofs.Order.{strs, word-is}
+use Rattle.unions.proofs.Words.{strs}
 use Rattle.unions.proofs.Joining.{Told}
 use Rattle.joins.specs.Buffers.{words}
 

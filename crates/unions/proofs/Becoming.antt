@@ -6,7 +6,7 @@ use mathlib.Core.Logic.{_⊎_, inl, inr, ⊎-elim}
 use Rattle.rules.specs.Strings.{Str, prefix, same, less, _▹_}
 use Rattle.rules.specs.Names.{Name, any, rising}
 use Rattle.rules.specs.Stamps.{Stamp, settle, settled, reduce}
-use Rattle.laws.proofs.Tests.{no, clash, decide, not-true, In, any-some, any-none}
+use Rattle.laws.proofs.Tests.{clash, decide, not-true, In, any-some, any-none}
 use Rattle.laws.proofs.Prefix.{prefix-refl, prefix-trans, prefix-antisym, prefix-comparable, prefix-grown, prefix-goes-on, grown-not-prefix, same-is, not-same}
 use Rattle.laws.proofs.Rising.{less-trans, less-apart, less-irrefl, less-total, rising-antichain}
 use Rattle.laws.proofs.Below.{covered-some, below-each}

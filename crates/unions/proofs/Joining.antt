@@ -22,21 +22,8 @@ use Rattle.laws.proofs.Counts.{count-below}
 use Rattle.laws.proofs.Lawful.{Named, Lawful, Short, lawful-parts, lawful-proper, unite-proper}
 use Rattle.laws.proofs.Stored.{strs-of-words, stored-lawful, stored-is}
 use Rattle.unions.specs.declared.Joined.{Joined}
-use Rattle.unions.specs.Unions.{
-  merge,
-  united,
-  unitedIn,
-  reduced,
-  reducedCount,
-  reducedIn,
-  lifted,
-  joinedIds,
-  joinedIdIn,
-  joinedId,
-  joinedCounts,
-  joinedUpdateIn,
-}
-use Rattle.unions.proofs.Order.{strs, of-string}
+use Rattle.unions.specs.Unions.{merge, reduced, lifted, joinedIds, joinedIdIn, joinedId, joinedCounts, joinedUpdateIn}
+use Rattle.unions.proofs.Words.{strs, of-string}
 use Rattle.unions.proofs.Merging.{merge-words, merge-union}
 use Rattle.unions.proofs.Reducing.{reduced-id, reduced-words}
 use Rattle.unions.proofs.Lifting.{lifted-update, lifted-words}

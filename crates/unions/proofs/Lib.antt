@@ -1,6 +1,6 @@
--- The laws: the merge is the union (Merging), the stack is reduction of the id (Reducing), the walk is reduction of the update (Becoming, Lifting).
--- The others serve the code's proofs.
-pub mod Order
+-- The laws: the merge is the union (Merging), the stack is reduction of the id (Reducing), the walk is reduction of the update (Becoming, Lifting),
+-- and together they are the join (Joining). The others serve the code's proofs.
+pub mod Words
 pub mod Merging
 pub mod Reducing
 pub mod Becoming

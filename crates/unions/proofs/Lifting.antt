@@ -1,22 +1,26 @@
 -- One walk over the reduced id and the update finds what each string of the update becomes: an id's string that is passed over comes before the string
 -- in hand and all behind it, so it is a prefix of none of them. Assumes nothing.
 use mathlib.Core.Path.{_≡_, refl, sym, _∙_, subst}
-use mathlib.Core.Bool.{Bool, true, false, cond, not, _&&_}
+use mathlib.Core.Bool.{Bool, true, false, cond}
 use mathlib.Core.List.{List, [], _∷_}
 use mathlib.Core.Logic.{_⊎_, inl, inr, ⊎-elim}
 use Prim.Native.Nat.{ℕ, _≤_}
-use borrow.Author.Tests.{lt-ltb, le-ltb, eqb-true, eqb-false}
+use native.Mathlib.Nat.{le-of-lt}
+use native.Mathlib.Omega.{arith}
+use borrow.Author.Tests.{ltb-true, ltb-false, eqb-true, eqb-false}
 use lib.Dec.{eqb, ltb}
 use Rattle.rules.specs.Strings.{Str, prefix, less, strOf, isWord}
 use Rattle.rules.specs.Names.{Name, all, rising}
 use Rattle.rules.specs.Stamps.{Stamp, reduce}
-use Rattle.laws.proofs.Tests.{clash, not-true, In, all-each, each-all}
-use Rattle.laws.proofs.Rising.{less-trans, less-apart, less-irrefl, rising-head, rising-tail, rising-cons, rising-unique}
-use Rattle.laws.proofs.Words.{prefix-not-less, extends-not-less}
+use Rattle.laws.proofs.Tests.{clash, decide, not-true, In, all-each, each-all}
+use Rattle.laws.proofs.Rising.{less-trans, less-apart, rising-head, rising-tail, rising-cons, rising-unique}
+use Rattle.laws.proofs.Prefix.{prefix-refl}
 use Rattle.laws.proofs.Steps.{Proper}
 use Rattle.laws.proofs.Reduce.{reduce-proper}
-use Rattle.unions.specs.Unions.{prefixW, reduced, seek, root, lift, onceFrom, once, lifted}
-use Rattle.unions.proofs.Order.{strs, in-strs, strs-in, Stand, under, over, before, after, stand, word-alike}
+use Rattle.strings.proofs.Order.{prefix-le, le-less}
+use Rattle.strings.proofs.Ends.{last-less}
+use Rattle.unions.specs.Unions.{behind, reduced, seek, root, lift, onceFrom, once, lifted}
+use Rattle.unions.proofs.Words.{strs, prefixW, in-strs, strs-in, word-alike}
 use Rattle.unions.proofs.Merging.{Words}
 use Rattle.unions.proofs.Reducing.{reduced-id, reduced-words}
 use Rattle.unions.proofs.Becoming.{Becomes, becomes-one, less-further, becomes-order, Account, reduce-account}
@@ -26,7 +30,7 @@ use Rattle.unions.proofs.Becoming.{Becomes, becomes-one, less-further, 
 seek-in : (c : List ℕ) (r t : ℕ) → In t (seek c r) → In t c
 unfolding seek
 seek-in [] r t i = i
-seek-in (w ∷ c) r t i = by (ltb w r && not (prefixW w r)) i (λ h. seek-in c r t h)
+seek-in (w ∷ c) r t i = by (behind r w) i (λ h. seek-in c r t h)
   where
     by : (b : Bool) → In t (cond b (seek c r) (w ∷ c)) → (In t (seek c r) → In t c) → In t (w ∷ c)
     by true i ih = inr (ih i)
@@ -44,21 +48,11 @@ record Sought (c : List ℕ) (r : ℕ) (d : List ℕ) : Type 0 where
   stops : Stops d r
 
 module _ (most : ℕ) (hm : most ≤ 58) where
-  -- the code's test: lower, and no prefix
-  less-test : (t r : ℕ) → isWord most t ≡ true → isWord most r ≡ true → (ltb t r && not (prefixW t r)) ≡ less (strOf t) (strOf r)
-  less-test t r p q = by (stand most hm t r p q)
-    where
-      by : Stand t r → (ltb t r && not (prefixW t r)) ≡ less (strOf t) (strOf r)
-      by (under e h) = simp (lt-ltb t r h, e) (sym (prefix-not-less (strOf t) (strOf r) e))
-      by (over e h) = simp (le-ltb t r h) (sym (extends-not-less (strOf t) (strOf r) e))
-      by (before e f h) = simp (lt-ltb t r h, e) (sym f)
-      by (after e f h) = simp (le-ltb t r h) (sym (not-true (λ k. less-irrefl (strOf t) (less-trans (strOf t) (strOf r) (strOf t) k f))))
-
   sought : (c : List ℕ) (r : ℕ) → Words most c → isWord most r ≡ true → rising (strs c) ≡ true → Sought c r (seek c r)
   unfolding seek
   sought [] r p q h = record { past = λ t i. absurd i; rises = h; stops = tt }
   sought (w ∷ c) r p q h =
-      by (ltb w r && not (prefixW w r)) (less-test w r (p w (inl refl)) q) (sought c r (λ t i. p t (inr i)) q (rising-tail (strOf w) (strs c) h))
+      by (behind r w) (last-less most hm w (p w (inl refl)) r q) (sought c r (λ t i. p t (inr i)) q (rising-tail (strOf w) (strs c) h))
     where
       by : (b : Bool) → b ≡ less (strOf w) (strOf r) → Sought c r (seek c r) → Sought (w ∷ c) r (cond b (seek c r) (w ∷ c))
       by true e g = record {
@@ -80,29 +74,38 @@ record Rest (i : Name) (c u : List ℕ) : Type 0 where
   within : (t : ℕ) → In t c → In (strOf t) i
   past : (t : Str) → In t i → In t (strs c) ⊎ ((r : ℕ) → In r u → less t (strOf r) ≡ true)
 
-rooted : (i : Name) (d : List ℕ) (r : ℕ) → rising (strs d) ≡ true → Stops d r → ((t : ℕ) → In t d → In (strOf t) i)
-    → ((t : Str) → In t i → In t (strs d) ⊎ (less t (strOf r) ≡ true)) → Becomes i (strOf r) (strOf (root d r))
-unfolding root
-rooted i [] r h s f g = inr (refl, λ t k. ⊎-elim (λ j. absurd j) (λ l. less-apart t (strOf r) l .0) (g t k))
-rooted i (w ∷ d) r h s f g = by (prefixW w r) refl
-  where
-    by : (b : Bool) → prefixW w r ≡ b → Becomes i (strOf r) (strOf (cond b w r))
-    by true e = inl (f w (inl refl), e)
-    by false e =
-        inr (
-          refl,
-          λ t k. ⊎-elim
-              (λ j. ⊎-elim (λ q. subst (λ (x : Str). prefix x (strOf r) ≡ false) (sym q) e)
-              (λ m. not-true (λ p. clash (less-further (strOf w) t (strOf r) (rising-head (strOf w) (strs d) h t m) p) s)) j)
-              (λ l. less-apart t (strOf r) l .0) (g t k),
-        )
-
 module _ (most : ℕ) (hm : most ≤ 58) (i : Name) where
+  rooted : (d : List ℕ) (r : ℕ) → Words most d → isWord most r ≡ true → rising (strs d) ≡ true → Stops d r → ((t : ℕ) → In t d → In (strOf t) i)
+      → ((t : Str) → In t i → In t (strs d) ⊎ (less t (strOf r) ≡ true)) → Becomes i (strOf r) (strOf (root d r))
+  unfolding root
+  rooted [] r p o h s f g = inr (refl, λ t k. ⊎-elim (λ j. absurd j) (λ l. less-apart t (strOf r) l .0) (g t k))
+  rooted (w ∷ d) r p o h s f g = by (ltb w r) refl (decide (prefixW w r))
+    where
+      v : isWord most w ≡ true
+      v = p w (inl refl)
+
+      by : (b : Bool) → ltb w r ≡ b → (prefixW w r ≡ true) ⊎ (prefixW w r ≡ false) → Becomes i (strOf r) (strOf (cond b w r))
+      by true e (inl q) = inl (f w (inl refl), q)
+      -- lower, and no prefix: it would come before r
+      by true e (inr q) = absurd (clash (le-less most hm w r v o (le-of-lt (ltb-true w r e)) q) s)
+      -- a prefix that is not lower is r itself
+      by false e (inl q) =
+          let same : w ≡ r = omega (arith, prefix-le most hm w r v o q, ltb-false w r e) in
+          inl (subst (λ (x : ℕ). In (strOf x) i) same (f w (inl refl)), prefix-refl (strOf r))
+      by false e (inr q) =
+          inr (
+            refl,
+            λ t k. ⊎-elim
+                (λ j. ⊎-elim (λ m. subst (λ (x : Str). prefix x (strOf r) ≡ false) (sym m) q)
+                (λ m. not-true (λ z. clash (less-further (strOf w) t (strOf r) (rising-head (strOf w) (strs d) h t m) z) s)) j)
+                (λ l. less-apart t (strOf r) l .0) (g t k),
+          )
+
   lifts : (u c : List ℕ) → Words most u → Words most c → rising (strs u) ≡ true → rising (strs c) ≡ true → Rest i c u → Lifts i u (lift c u)
   unfolding lift
   lifts [] c p q h k g = none
   lifts (r ∷ u) c p q h k g =
-      more (rooted i d r (s .rises) (s .stops) inner now)
+      more (rooted d r (λ x j. q x (seek-in c r x j)) (p r (inl refl)) (s .rises) (s .stops) inner now)
       (lifts u d (λ x j. p x (inr j)) (λ x j. q x (seek-in c r x j)) (rising-tail (strOf r) (strs u) h) (s .rises) record { within = inner; past = later })
     where
       d : List ℕ
@@ -223,7 +226,7 @@ module _ (most : ℕ) (hm : most ≤ 58) where
 root-in : (d : List ℕ) (r : ℕ) → In (root d r) d ⊎ (root d r ≡ r)
 unfolding root
 root-in [] r = inr refl
-root-in (t ∷ d) r = by (prefixW t r)
+root-in (t ∷ d) r = by (ltb t r)
   where
     by : (b : Bool) → In (cond b t r) (t ∷ d) ⊎ (cond b t r ≡ r)
     by true = inl (inl refl)

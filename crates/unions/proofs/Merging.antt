@@ -1,19 +1,23 @@
 -- The merge of two rising names is the document's union: it rises, it holds nothing else, and what is lost is a prefix of something
 -- that stays. Assumes nothing.
-use mathlib.Core.Path.{_≡_, refl, sym, subst}
-use mathlib.Core.Bool.{true}
+use mathlib.Core.Path.{_≡_, refl, sym, subst, _∙_}
+use mathlib.Core.Bool.{Bool, true, false, cond}
 use mathlib.Core.List.{List, [], _∷_, _++_}
 use mathlib.Core.Logic.{_⊎_, inl, inr, ⊎-elim}
 use Prim.Native.Nat.{ℕ, _≤_}
-use borrow.Author.Tests.{lt-ltb, le-ltb}
+use native.Mathlib.Nat.{le-of-lt}
+use borrow.Author.Tests.{ltb-true, ltb-false, le-leb}
+use lib.Dec.{ltb}
 use Rattle.rules.specs.Strings.{Str, prefix, less, strOf, isWord}
 use Rattle.rules.specs.Names.{all, rising, union}
 use Rattle.laws.proofs.Tests.{In, in-left, in-right, in-append, Some, all-each, each-all}
 use Rattle.laws.proofs.Prefix.{prefix-refl, prefix-trans, prefix-antisym}
 use Rattle.laws.proofs.Rising.{less-trans, rising-head, rising-tail, rising-cons, rising-antichain, rising-unique}
 use Rattle.laws.proofs.Union.{union-top, top-union, union-rising}
-use Rattle.unions.specs.Unions.{prefixW, mergeFrom, merge}
-use Rattle.unions.proofs.Order.{strs, From, in-strs, strs-in, Stand, under, over, before, after, stand}
+use Rattle.strings.specs.Words.{lastOf}
+use Rattle.strings.proofs.Ends.{last-less, last-prefix}
+use Rattle.unions.specs.Unions.{behind, mergeFrom, merge}
+use Rattle.unions.proofs.Words.{strs, prefixW, From, in-strs, strs-in}
 
 -- ---- the ways of a merge
 
@@ -31,6 +35,10 @@ abbrev pub Words : ℕ → List ℕ → Type 0
 Words most l = (x : ℕ) → In x l → isWord most x ≡ true
 
 module _ (most : ℕ) (hm : most ≤ 58) where
+  -- not below a, and not behind it: an extension
+  within : (a b : ℕ) → isWord most a ≡ true → isWord most b ≡ true → a ≤ b → behind b a ≡ false → prefixW a b ≡ true
+  within a b v w l e = sym (last-prefix most hm a v b w l) ∙ le-leb b (lastOf a) (ltb-false (lastOf a) b e)
+
   merged : (m n : List ℕ) → Words most m → Words most n → Merged m n (merge m n)
   unfolding merge mergeFrom
   merged [] n p q = second
@@ -38,13 +46,21 @@ module _ (most : ℕ) (hm : most ≤ 58) where
     where
       from : (n : List ℕ) → Words most n → ((l : List ℕ) → Words most l → Merged m l (merge m l)) → Merged (s ∷ m) n (merge (s ∷ m) n)
       from [] q ih = first
-      from (t ∷ n) q ih = by (stand most hm s t (p s (inl refl)) (q t (inl refl))) (ih (t ∷ n) q) (from n (λ x i. q x (inr i)) ih)
+      from (t ∷ n) q ih = by (ltb s t) refl (behind t s) refl (behind s t) refl (ih (t ∷ n) q) (from n (λ x i. q x (inr i)) ih)
         where
-          by : Stand s t → Merged m (t ∷ n) (merge m (t ∷ n)) → Merged (s ∷ m) n (merge (s ∷ m) n) → Merged (s ∷ m) (t ∷ n) (merge (s ∷ m) (t ∷ n))
-          by (under e h) a b = simp (lt-ltb s t h, e) (skips e a)
-          by (over e h) a b = simp (le-ltb s t h, e) (skips2 e b)
-          by (before e f h) a b = simp (lt-ltb s t h, e) (takes f a)
-          by (after e f h) a b = simp (le-ltb s t h, e) (takes2 f b)
+          v : isWord most s ≡ true
+          v = p s (inl refl)
+
+          w : isWord most t ≡ true
+          w = q t (inl refl)
+
+          by : (a : Bool) → ltb s t ≡ a → (b : Bool) → behind t s ≡ b → (c : Bool) → behind s t ≡ c
+              → Merged m (t ∷ n) (merge m (t ∷ n)) → Merged (s ∷ m) n (merge (s ∷ m) n)
+              → Merged (s ∷ m) (t ∷ n) (cond a (cond b (s ∷ merge m (t ∷ n)) (merge m (t ∷ n))) (cond c (t ∷ merge (s ∷ m) n) (merge (s ∷ m) n)))
+          by true e true f c g x y = takes (sym (last-less most hm s v t w) ∙ f) x
+          by true e false f c g x y = skips (within s t v w (le-of-lt (ltb-true s t e)) f) x
+          by false e b f true g x y = takes2 (sym (last-less most hm t w s v) ∙ g) y
+          by false e b f false g x y = skips2 (within t s w v (ltb-false s t e) g) y
 
 -- nothing else comes in
 merged-in : {m n l : List ℕ} → Merged m n l → (x : ℕ) → In x l → In x m ⊎ In x n

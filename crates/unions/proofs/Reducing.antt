@@ -20,8 +20,9 @@ use Rattle.laws.proofs.Reduce.{steps-proper, reduce-unique}
 use Rattle.laws.proofs.Pairs.{firstTwins, Twins, siblings-twins, neighbour-pair}
 use Rattle.laws.proofs.Words.{str-word, word-grown}
 use Rattle.laws.proofs.Shares.{grown-length}
+use Rattle.strings.proofs.Order.{word-is}
 use Rattle.unions.specs.Unions.{push, pushAll, reduced}
-use Rattle.unions.proofs.Order.{strs, word-is, word-short, of-string}
+use Rattle.unions.proofs.Words.{strs, word-within, of-string}
 use Rattle.unions.proofs.Merging.{Words}
 
 -- ---- s0 and s1 side by side
@@ -179,7 +180,7 @@ module _ (most : ℕ) (hm : most ≤ 58) where
   -- the word of what s0 and s1 share: that of s0 less one
   root-word : (s : Str) (w : ℕ) → isWord most w ≡ true → strOf w ≡ s ▹ false → (isWord most (w - 1) ≡ true) × (strOf (w - 1) ≡ s)
   root-word s w h e =
-      let short : length s + 1 ≤ most = omega (arith, word-short most hm w h, ap length e, grown-length s false) in
+      let short : length s + 1 ≤ most = omega (arith, word-within most hm w h, ap length e, grown-length s false) in
       let is : w - 1 ≡ wordOf s = omega (arith, word-is most hm w h, ap wordOf e, word-grown s false (omega arith)) in
       rw is (of-string most hm s (omega arith), str-word s (omega arith))
 

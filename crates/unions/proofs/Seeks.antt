@@ -1,16 +1,17 @@
 -- What a turn of `seek`, of `put_once` and of `lift` leaves to do. Assumes nothing.
 use mathlib.Core.Path.{_≡_, refl, sym, ap, _∙_}
-use mathlib.Core.Bool.{Bool, true, false, cond, _&&_}
+use mathlib.Core.Bool.{Bool, true, false, cond}
 use mathlib.Core.List.{List, [], _∷_, reverseAux, reverse}
 use mathlib.Core.Logic.{_⊎_, inl, inr}
 use Prim.Native.Nat.{ℕ, zero, suc, _+_, _-_, _≤_, _<_}
 use native.Mathlib.Numerals.{add-one}
 use native.Mathlib.Omega.{arith}
 use borrow.Author.Tests.{lt-ltb, le-ltb, eq-eqb, ne-eqb}
-use lib.Dec.{eqb, ltb}
+use lib.Dec.{eqb}
 use lib.ListN.{length, getD, take, drop, drop-of-length-le}
 use lib.Seq.{drop-cons, getD-take, length-take-le}
-use Rattle.unions.specs.Unions.{prefixW, stack, seek, root, lift, onceFrom, once, lifted, onceOn}
+use Rattle.strings.specs.Words.{lastOf}
+use Rattle.unions.specs.Unions.{stack, seek, root, lift, onceFrom, once, lifted, onceOn}
 use Rattle.unions.proofs.Stacks.{stack-top, stack-front, drop-on, same-at}
 
 -- ---- the id's words
@@ -19,33 +20,25 @@ module _ (id : List ℕ) (i r : ℕ) where
   abbrev here : ℕ
   here = getD id i 0
 
-  pub seek-next : i < length id → here < r → prefixW here r ≡ false → seek (drop (i + 1) id) r ≡ seek (drop i id) r
+  pub seek-next : i < length id → lastOf here < r → seek (drop (i + 1) id) r ≡ seek (drop i id) r
   unfolding seek
-  seek-next h l e = rw (add-one, drop-cons id i 0 h) (simp (lt-ltb here r l, e))
+  seek-next h l = rw (add-one, drop-cons id i 0 h) (simp (lt-ltb (lastOf here) r l))
 
-  pub seek-high : i < length id → r ≤ here → seek (drop i id) r ≡ drop i id
+  pub seek-stop : i < length id → r ≤ lastOf here → seek (drop i id) r ≡ drop i id
   unfolding seek
-  seek-high h l = rw (drop-cons id i 0 h) (simp (le-ltb here r l))
-
-  pub seek-prefix : i < length id → prefixW here r ≡ true → seek (drop i id) r ≡ drop i id
-  unfolding seek
-  seek-prefix h e = rw (drop-cons id i 0 h) (rw e (by (ltb here r)))
-    where
-      by : (b : Bool) → cond (b && false) (seek (drop (suc i) id) r) (here ∷ drop (suc i) id) ≡ here ∷ drop (suc i) id
-      by true = refl
-      by false = refl
+  seek-stop h l = rw (drop-cons id i 0 h) (simp (le-ltb (lastOf here) r l))
 
   pub seek-end : length id ≤ i → seek (drop i id) r ≡ drop i id
   unfolding seek
   seek-end h = rw (drop-of-length-le id h)
 
-  pub root-here : i < length id → prefixW here r ≡ true → here ≡ root (drop i id) r
+  pub root-here : i < length id → here < r → here ≡ root (drop i id) r
   unfolding root
-  root-here h e = rw (drop-cons id i 0 h, e)
+  root-here h l = rw (drop-cons id i 0 h) (simp (lt-ltb here r l))
 
-  pub root-self : i < length id → prefixW here r ≡ false → r ≡ root (drop i id) r
+  pub root-self : i < length id → r ≤ here → r ≡ root (drop i id) r
   unfolding root
-  root-self h e = rw (drop-cons id i 0 h, e)
+  root-self h l = rw (drop-cons id i 0 h) (simp (le-ltb here r l))
 
   pub root-end : length id ≤ i → r ≡ root (drop i id) r
   unfolding root

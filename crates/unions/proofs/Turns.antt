@@ -1,6 +1,6 @@
 -- What the loop of `unite` comes to from a turn on: a turn leaves it as it was, and at the end one of the two is all that is left. Assumes nothing.
 use mathlib.Core.Path.{_≡_, refl, sym, ap, ap₂, _∙_}
-use mathlib.Core.Bool.{Bool, true, false, cond, not}
+use mathlib.Core.Bool.{Bool, true, false, cond}
 use mathlib.Core.List.{List, [], _∷_, _++_, append-nil}
 use mathlib.Core.Logic.{_⊎_, inl, inr}
 use Prim.Native.Nat.{ℕ, suc, _+_, _≤_, _<_}
@@ -8,28 +8,30 @@ use native.Mathlib.Nat.{zero-add, add-assoc}
 use native.Mathlib.Numerals.{add-one}
 use native.Mathlib.Omega.{arith}
 use borrow.Author.Tests.{lt-ltb, le-ltb, le-leb, lt-leb}
+use lib.Dec.{ltb}
 use lib.ListN.{length, drop, getD, length-append, drop-of-length-le}
 use lib.Seq.{sets, drop-cons}
-use Rattle.unions.specs.Unions.{opt, prefixW, mergeFrom, merge, united, unitedIn}
+use Rattle.strings.specs.Words.{lastOf}
+use Rattle.unions.specs.Unions.{opt, behind, mergeFrom, merge, united, unitedIn}
 use Rattle.unions.proofs.Counts.{merge-few}
 use Rattle.unions.proofs.Stores.{sets-append, sets-front}
 
 -- ---- one turn of the merge
 
 module _ (s t : ℕ) (m n : List ℕ) where
-  merge-lower : s < t → merge (s ∷ m) (t ∷ n) ≡ opt (not (prefixW s t)) s ++ merge m (t ∷ n)
+  merge-lower : s < t → merge (s ∷ m) (t ∷ n) ≡ opt (behind t s) s ++ merge m (t ∷ n)
   unfolding merge mergeFrom
-  merge-lower h = simp (lt-ltb s t h) (by (prefixW s t))
+  merge-lower h = simp (lt-ltb s t h) (by (behind t s))
     where
-      by : (b : Bool) → cond b (merge m (t ∷ n)) (s ∷ merge m (t ∷ n)) ≡ opt (not b) s ++ merge m (t ∷ n)
+      by : (b : Bool) → cond b (s ∷ merge m (t ∷ n)) (merge m (t ∷ n)) ≡ opt b s ++ merge m (t ∷ n)
       by true = refl
       by false = refl
 
-  merge-upper : t ≤ s → merge (s ∷ m) (t ∷ n) ≡ opt (not (prefixW t s)) t ++ merge (s ∷ m) n
+  merge-upper : t ≤ s → merge (s ∷ m) (t ∷ n) ≡ opt (behind s t) t ++ merge (s ∷ m) n
   unfolding merge mergeFrom
-  merge-upper h = simp (le-ltb s t h) (by (prefixW t s))
+  merge-upper h = simp (le-ltb s t h) (by (behind s t))
     where
-      by : (b : Bool) → cond b (merge (s ∷ m) n) (t ∷ merge (s ∷ m) n) ≡ opt (not b) t ++ merge (s ∷ m) n
+      by : (b : Bool) → cond b (t ∷ merge (s ∷ m) n) (merge (s ∷ m) n) ≡ opt b t ++ merge (s ∷ m) n
       by true = refl
       by false = refl
 
@@ -39,10 +41,6 @@ merge-none [] = refl
 merge-none (s ∷ m) = refl
 
 -- ---- in the loop
-
-pub opt-few : (b : Bool) (x : ℕ) → length (opt b x) ≤ 1
-opt-few true x = omega arith
-opt-few false x = omega arith
 
 -- with k words in the buffer, and m and n to come
 unfoldable pub merges : List ℕ → List ℕ → List ℕ → ℕ → ℕ × List ℕ
@@ -63,21 +61,21 @@ module _ (m n out : List ℕ) (k i j : ℕ) (hi : i < length m) (hj : j < length
   abbrev there : ℕ
   there = getD n j 0
 
-  -- b says whether the lower one is a prefix of the other
-  pub merges-lower : (b : Bool) (r : ℕ) (after : List ℕ) → here < there → b ≡ prefixW here there
-      → r ≡ k + length (opt (not b) here) → after ≡ sets out k (opt (not b) here)
+  -- z is the last word that begins with the lower one
+  pub merges-lower : (z r : ℕ) (after : List ℕ) → here < there → z ≡ lastOf here
+      → r ≡ k + length (opt (ltb z there) here) → after ≡ sets out k (opt (ltb z there) here)
       → merges (drop (i + 1) m) (drop j n) after r ≡ merges (drop i m) (drop j n) out k
-  merges-lower b r after h e p q =
+  merges-lower z r after h e p q =
       rw (q, p, e)
-      (puts (opt (not (prefixW here there)) here) (drop (i + 1) m) (drop j n) (drop i m) (drop j n) out k
+      (puts (opt (behind there here) here) (drop (i + 1) m) (drop j n) (drop i m) (drop j n) out k
       (rw (add-one, drop-cons m i 0 hi, drop-cons n j 0 hj) (merge-lower here there (drop (suc i) m) (drop (suc j) n) h)))
 
-  pub merges-upper : (b : Bool) (r : ℕ) (after : List ℕ) → there ≤ here → b ≡ prefixW there here
-      → r ≡ k + length (opt (not b) there) → after ≡ sets out k (opt (not b) there)
+  pub merges-upper : (z r : ℕ) (after : List ℕ) → there ≤ here → z ≡ lastOf there
+      → r ≡ k + length (opt (ltb z here) there) → after ≡ sets out k (opt (ltb z here) there)
       → merges (drop i m) (drop (j + 1) n) after r ≡ merges (drop i m) (drop j n) out k
-  merges-upper b r after h e p q =
+  merges-upper z r after h e p q =
       rw (q, p, e)
-      (puts (opt (not (prefixW there here)) there) (drop i m) (drop (j + 1) n) (drop i m) (drop j n) out k
+      (puts (opt (behind here there) there) (drop i m) (drop (j + 1) n) (drop i m) (drop j n) out k
       (rw (add-one, drop-cons m i 0 hi, drop-cons n j 0 hj) (merge-upper here there (drop (suc i) m) (drop (suc j) n) h)))
 
 -- one of the two has no word left: what is left of the other follows

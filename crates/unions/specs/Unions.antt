@@ -1,17 +1,18 @@
 -- Names as words in rising order: the union as one merge, the reduction of an id by a stack, and what reduction makes of the update.
 -- Each goes once over its words. That they are `union` and `reduce` of the rules is shown in proofs/.
-use mathlib.Core.Bool.{Bool, true, false, cond, not, _&&_}
+use mathlib.Core.Bool.{Bool, true, false, cond}
 use mathlib.Core.List.{List, [], _∷_, _++_, reverse}
 use Prim.Native.Nat.{ℕ, zero, suc, _+_, _-_}
 use lib.Dec.{eqb, leb, ltb}
 use lib.ListN.{length, getD, take, replicate}
-use Rattle.rules.specs.Strings.{prefix, siblings, strOf}
+use Rattle.rules.specs.Strings.{siblings, strOf}
 use Rattle.rules.specs.Packed.{over}
+use Rattle.strings.specs.Words.{lastOf}
 use Rattle.unions.specs.declared.Joined.{Joined}
 
--- the string of s is a prefix of that of t
-abbrev pub prefixW : ℕ → ℕ → Bool
-prefixW s t = prefix (strOf s) (strOf t)
+-- t stands behind all words that begin with the string of s: so t comes after s, and does not extend it
+abbrev pub behind : ℕ → ℕ → Bool
+behind t s = ltb (lastOf s) t
 
 -- x, or nothing
 abbrev pub opt : Bool → ℕ → List ℕ
@@ -39,8 +40,8 @@ unfoldable pub mergeFrom : ℕ → List ℕ → (List ℕ → List ℕ) → List
 mergeFrom s m k [] = s ∷ m
 mergeFrom s m k (t ∷ n) =
     cond (ltb s t)
-    (cond (prefixW s t) (k (t ∷ n)) (s ∷ k (t ∷ n)))
-    (cond (prefixW t s) (mergeFrom s m k n) (t ∷ mergeFrom s m k n))
+    (cond (behind t s) (s ∷ k (t ∷ n)) (k (t ∷ n)))
+    (cond (behind s t) (t ∷ mergeFrom s m k n) (mergeFrom s m k n))
 
 -- the lower word comes first; a string is not kept beside one that it is a prefix of
 unfoldable pub merge : List ℕ → List ℕ → List ℕ
@@ -88,12 +89,12 @@ reducedIn id count = frontIn id count (reduced (take count id))
 -- the id's words without those at the front that come before r and are no prefix of it
 unfoldable pub seek : List ℕ → ℕ → List ℕ
 seek [] r = []
-seek (t ∷ i) r = cond (ltb t r && not (prefixW t r)) (seek i r) (t ∷ i)
+seek (t ∷ i) r = cond (behind r t) (seek i r) (t ∷ i)
 
--- the first of the id's words, where it is a prefix of r; else r stays
+-- the first of the id's words, where it is below r: sought so, it is a prefix of r then; else r stays
 unfoldable pub root : List ℕ → ℕ → ℕ
 root [] r = r
-root (t ∷ i) r = cond (prefixW t r) t r
+root (t ∷ i) r = cond (ltb t r) t r
 
 -- a string that a string of the id is a prefix of becomes that string
 unfoldable pub lift : List ℕ → List ℕ → List ℕ

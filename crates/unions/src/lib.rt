@@ -5,7 +5,7 @@ ghost use lib.ListN.{length, drop, replicate};
 ghost use lib.Seq.{sets};
 ghost use Rattle.unions.specs.Unions.{opt, stack, united, unitedIn, push, reducedCount, reducedIn, seek, root, onceOn, liftedCount, liftedIn, joinedCounts, joinedUpdateIn, joinedIdIn};
 use strings::are_siblings;
-use strings::is_prefix;
+use strings::last;
 
 // How many words the update and the id of a join have.
 pub struct Joined {
@@ -51,10 +51,10 @@ pub fn unite(m: &[u64], n: &[u64], out: &mut [u64]) -> usize
         let s = m[i];
         let t = n[j];
         if s < t {
-            k = put(out, k, !is_prefix(s, t), s);
+            k = put(out, k, last(s) < t, s);
             i += 1;
         } else {
-            k = put(out, k, !is_prefix(t, s), t);
+            k = put(out, k, last(t) < s, t);
             j += 1;
         }
     }
@@ -108,26 +108,19 @@ fn seek(id: &[u64], j: usize, r: u64) -> usize
     ensures { λ i. ⌜ (i ≤ length (now (id .entry))) × (drop i (now (id .entry)) ≡ seek (drop j (now (id .entry))) r) ⌝ }
 {
     let mut i = j;
-    while i < id.len() {
-        let t = id[i];
-        if r <= t {
-            break;
-        }
-        if is_prefix(t, r) {
-            break;
-        }
+    while i < id.len() && last(id[i]) < r {
         i += 1;
     }
     i
 }
 
-// The word at j where it is a prefix of r; else r.
+// The word at j where it is below r; else r.
 fn root(id: &[u64], j: usize, r: u64) -> u64
     ensures { λ x. ⌜ x ≡ root (drop j (now (id .entry))) r ⌝ }
 {
     if j < id.len() {
         let t = id[j];
-        if is_prefix(t, r) {
+        if t < r {
             return t;
         }
     }
@@ -184,7 +177,7 @@ fn clear(out: &mut [u64], from: usize, to: usize)
 // A word at a place of the buffer, or nothing. Gives the place behind it.
 fn put(out: &mut [u64], at: usize, yes: bool, x: u64) -> usize
     requires { ⌜ at < length (now out) ⌝ }
-    ensures { λ r. ⌜ (r ≡ at + length (opt yes x)) × (now (out .exit) ≡ sets (now (out .entry)) at (opt yes x)) ⌝ }
+    ensures { λ r. ⌜ (r ≤ at + 1) × (r ≡ at + length (opt yes x)) × (now (out .exit) ≡ sets (now (out .entry)) at (opt yes x)) ⌝ }
 {
     if yes {
         out[at] = x;

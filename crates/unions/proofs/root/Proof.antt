@@ -1,5 +1,4 @@
--- `unions::root` meets its contract: one case with a word that is a prefix, one with a word that is none, and one without a word. Assumes nothing.
-use mathlib.Core.Path.{sym, _∙_}
+-- `unions::root` meets its contract: one case with a lower word, one with a word that is not lower, and one without a word. Assumes nothing.
 use native.Mathlib.Omega.{arith}
 use borrow.Author.Needs.{needs}
 use Rattle.unions.proofs.Seeks.{root-here, root-self, root-end}
@@ -12,24 +11,18 @@ mul-t c = search needs
 shared-slice-read-t : tie.Need-shared-slice-read-t
 shared-slice-read-t c = search needs
 
-is-prefix-requires : tie.Need-is-prefix-requires
-is-prefix-requires c κs = search needs
-
 returns : tie.Need-returns
 returns c =
-    let a = c .before in
-    let g = a .before .before .before .before .args in
-    root-here (g .id .now) (g .j) (g .r) (omega arith) (sym (a .is-prefix .ensures) ∙ c .if2 .taken)
+    let g = c .before .before .before .args in
+    root-here (g .id .now) (g .j) (g .r) (omega arith) (c .if2 .taken)
 
 returns-2 : tie.Need-returns-2
 returns-2 c =
-    let a = c .before in
-    let g = a .before .before .before .before .args in
-    root-self (g .id .now) (g .j) (g .r) (omega arith) (sym (a .is-prefix .ensures) ∙ c .if2 .left)
+    let g = c .before .before .before .args in
+    root-self (g .id .now) (g .j) (g .r) (omega arith) (c .if2 .left)
 
 returns-3 : tie.Need-returns-3
-returns-3 c = let g = c .before .before .args in root-end (g .id .now) (g .j) (g .r) (omega arith)
+returns-3 c = let g = c .before .args in root-end (g .id .now) (g .j) (g .r) (omega arith)
 
 pub root-spec : {M : Type 1} → statement M
-root-spec =
-    tie.close (tie.spec mul-t shared-slice-read-t is-prefix-requires returns returns-2 returns-3)
+root-spec = tie.close (tie.spec mul-t shared-slice-read-t returns returns-2 returns-3)

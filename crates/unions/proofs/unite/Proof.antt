@@ -1,16 +1,15 @@
 -- `unions::unite` meets its contract. The loop's invariant: what the words to come make of the buffer is what all of them make of it at the start.
 -- The measure is how many are to come. Assumes nothing.
 use mathlib.Core.Path.{_≡_, refl, sym, ap, _∙_}
-use mathlib.Core.Bool.{not}
 use mathlib.Core.List.{List}
 use mathlib.Core.Logic.{inl, inr, ⊎-elim}
 use Prim.Native.Nat.{ℕ, _+_, _-_, _≤_}
 use native.Mathlib.Omega.{arith}
 use borrow.Author.Needs.{needs}
 use borrow.Author.Tests.{ltb-true, ltb-false}
-use lib.ListN.{length, drop, getD, length-drop}
+use lib.ListN.{length, drop, length-drop}
 use lib.Seq.{sets}
-use Rattle.unions.proofs.Turns.{merges, merges-lower, merges-upper, merges-end, merges-all, united-none, opt-few}
+use Rattle.unions.proofs.Turns.{merges, merges-lower, merges-upper, merges-end, merges-all, united-none}
 use Rattle.unions.proofs.unite.Statement.{statement}
 use Rattle.unions.proofs.unite.Tie as tie
 
@@ -49,8 +48,8 @@ mul-t c = search needs
 shared-slice-read-t : tie.Need-shared-slice-read-t Inv-loop μ-loop
 shared-slice-read-t c = search needs
 
-is-prefix-requires : tie.Need-is-prefix-requires Inv-loop μ-loop
-is-prefix-requires c κs = search needs
+last-requires : tie.Need-last-requires Inv-loop μ-loop
+last-requires c κs = search needs
 
 put-requires : tie.Need-put-requires Inv-loop μ-loop
 put-requires c κs = search needs
@@ -69,19 +68,18 @@ loop-again c =
     let t = x .before .before .before in
     let l = t .before .before in
     let g = l .before .before .before .before .before .args in
-    let hj = ltb-true (l .loop .j) (length (g .n .now)) (t .if2 .taken) in
-    let few = opt-few (not (w .is-prefix .result)) (getD (g .m .now) (l .loop .i) 0) in (
+    let hj = ltb-true (l .loop .j) (length (g .n .now)) (t .if2 .taken) in (
       search needs,
       omega (arith, hj),
-      omega (arith, few, p .put .ensures .0),
+      omega (arith, p .put .ensures .0),
       p .put .kept .0 ∙ l .loop .inv .3,
-      merges-lower (g .m .now) (g .n .now) (l .loop .out) (l .loop .k) (l .loop .i) (l .loop .j) (omega arith) hj (w .is-prefix .result) (p .put .result) (p .put .last .0)
-          (x .if3 .taken) (w .is-prefix .ensures) (p .put .ensures .0) (p .put .ensures .1)
+      merges-lower (g .m .now) (g .n .now) (l .loop .out) (l .loop .k) (l .loop .i) (l .loop .j) (omega arith) hj (w .last .result) (p .put .result) (p .put .last .0)
+          (x .if3 .taken) (w .last .ensures) (p .put .ensures .1) (p .put .ensures .2)
           ∙ l .loop .inv .4,
     )
 
-is-prefix-requires-2 : tie.Need-is-prefix-requires-2 Inv-loop μ-loop
-is-prefix-requires-2 c κs = search needs
+last-requires-2 : tie.Need-last-requires-2 Inv-loop μ-loop
+last-requires-2 c κs = search needs
 
 put-requires-2 : tie.Need-put-requires-2 Inv-loop μ-loop
 put-requires-2 c κs = search needs
@@ -103,14 +101,13 @@ loop-again-2 c =
     let t = x .before .before .before in
     let l = t .before .before in
     let g = l .before .before .before .before .before .args in
-    let hj = ltb-true (l .loop .j) (length (g .n .now)) (t .if2 .taken) in
-    let few = opt-few (not (w .is-prefix2 .result)) (getD (g .n .now) (l .loop .j) 0) in (
+    let hj = ltb-true (l .loop .j) (length (g .n .now)) (t .if2 .taken) in (
       search needs,
       omega (arith, hj),
-      omega (arith, few, p .put2 .ensures .0),
+      omega (arith, p .put2 .ensures .0),
       p .put2 .kept .0 ∙ l .loop .inv .3,
-      merges-upper (g .m .now) (g .n .now) (l .loop .out) (l .loop .k) (l .loop .i) (l .loop .j) (omega arith) hj (w .is-prefix2 .result) (p .put2 .result) (p .put2 .last .0)
-          (x .if3 .left) (w .is-prefix2 .ensures) (p .put2 .ensures .0) (p .put2 .ensures .1)
+      merges-upper (g .m .now) (g .n .now) (l .loop .out) (l .loop .k) (l .loop .i) (l .loop .j) (omega arith) hj (w .last2 .result) (p .put2 .result) (p .put2 .last .0)
+          (x .if3 .left) (w .last2 .ensures) (p .put2 .ensures .1) (p .put2 .ensures .2)
           ∙ l .loop .inv .4,
     )
 
@@ -161,12 +158,12 @@ unite-spec =
     shared-slice-read-s
     mul-t
     shared-slice-read-t
-    is-prefix-requires
+    last-requires
     put-requires
     add-i
     loop-less
     loop-again
-    is-prefix-requires-2
+    last-requires-2
     put-requires-2
     add-j
     loop-less-2
