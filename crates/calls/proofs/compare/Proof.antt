@@ -1,10 +1,14 @@
--- `calls::compare` meets its contract: what the readers refuse is passed out, the first's before the second's; then the two stamps are compared.
--- Assumes nothing.
+-- `calls::compare` meets its contract: what the readers refuse is passed out, the first's before the second's; then two lawful stamps are
+-- compared. Assumes nothing.
 use mathlib.Core.Path.{_≡_, sym, ap, _∙_}
+use mathlib.Core.Bool.{true}
 use mathlib.Core.List.{List}
 use Prim.Native.Nat.{ℕ}
 use borrow.Author.Needs.{needs}
+use lib.Dec.{lit≤}
+use lib.ListN.{length}
 use Rattle.rules.specs.Limits.{narrow}
+use Rattle.rules.specs.Stored.{isStored}
 use Rattle.rules.specs.Values.{compared}
 use Rattle.rules.specs.Packed.{readStamp, comparedAfter, packedCompare}
 use Rattle.rules.specs.declared.Verdict.the-variants.{Equal}
@@ -14,6 +18,10 @@ use Rattle.rules.specs.declared.Answer.{Answer}
 use Rattle.rules.specs.declared.Answer.the-variants.{Done, Refused}
 use Rattle.rules.specs.declared.Compared.{Compared}
 use Rattle.rules.specs.declared.Compared.the-variants.{Is, Refused as NotCompared}
+use Rattle.names.proofs.Shape.{stored-full}
+use Rattle.stamps.proofs.Laws.{stored-names}
+use Rattle.packed.proofs.Lent.{givenBy, read-is}
+use Rattle.calls.proofs.Laws.{read-stored}
 use Rattle.calls.proofs.compare.Statement.{statement}
 use Rattle.calls.proofs.compare.Tie as tie
 
@@ -35,8 +43,56 @@ module _ (s t : List ℕ) (g : Given) (e : g ≡ readStamp narrow s) where
     unfolding packedCompare
     both-read q = rw (sym e, sym f, p, q)
 
-read-requires : tie.Need-read-requires
-read-requires c κs = search needs
+-- what was read, by value
+module _ (c : tie.After-read-in) where
+  abbrev start : tie.Start
+  start = c .before .before .before .before .before
+
+  abbrev got : Given
+  got = givenBy (c .read-in .result) (c .read-in .last .1 .0) (c .read-in .last .1 .1 .0)
+
+  is-got : got ≡ readStamp narrow (start .args .first .now)
+  is-got = read-is _ _ _ _ (c .read-in .ensures .0) (c .read-in .ensures .1) (c .read-in .ensures .2)
+
+module _ (c : tie.After-read-in2) where
+  abbrev once : tie.After-enum-told
+  once = c .before .before .before
+
+  abbrev done : tie.After-read-in
+  done = once .before .before
+
+  abbrev got2 : Given
+  got2 = givenBy (c .read-in2 .result) (c .read-in2 .last .1 .0) (c .read-in2 .last .1 .1 .0)
+
+  is-got2 : got2 ≡ readStamp narrow (start done .args .second .now)
+  is-got2 = read-is _ _ _ _ (c .read-in2 .ensures .0) (c .read-in2 .ensures .1) (c .read-in2 .ensures .2)
+
+-- both are lawful
+module _ (c : tie.After-enum-told3) where
+  abbrev twice : tie.After-read-in2
+  twice = c .before .before
+
+  lawful : isStored narrow (got (done twice) .stamp) ≡ true
+  lawful = read-stored narrow (lit≤ tt) (start (done twice) .args .first .now) (got (done twice)) (is-got (done twice)) (once twice .enum-told .given .1)
+
+  lawful2 : isStored narrow (got2 twice .stamp) ≡ true
+  lawful2 = read-stored narrow (lit≤ tt) (start (done twice) .args .second .now) (got2 twice) (is-got2 twice) (c .enum-told3 .given .1)
+
+  -- a record has so many words
+  u-full : 16 ≡ length (got (done twice) .stamp .update .words)
+  u-full = sym (stored-full narrow _ (stored-names narrow (got (done twice) .stamp) lawful .0))
+
+  i-full : 16 ≡ length (got (done twice) .stamp .id .words)
+  i-full = sym (stored-full narrow _ (stored-names narrow (got (done twice) .stamp) lawful .1))
+
+  v-full : 16 ≡ length (got2 twice .stamp .update .words)
+  v-full = sym (stored-full narrow _ (stored-names narrow (got2 twice .stamp) lawful2 .0))
+
+  j-full : 16 ≡ length (got2 twice .stamp .id .words)
+  j-full = sym (stored-full narrow _ (stored-names narrow (got2 twice .stamp) lawful2 .1))
+
+read-in-requires : tie.Need-read-in-requires
+read-in-requires c κs = search needs
 
 enum-told : tie.Need-enum-told
 enum-told c = search needs
@@ -50,13 +106,12 @@ uncompared-requires c κs = search needs
 returns : tie.Need-returns
 returns c =
     let r = c .before .before .before in
-    let g = r .before .before .before .args in
+    let g = start r .args in
     let no = c .before .enum-told2 .given .1 in
-    passed _ (r .read .result .answer) _ (c .uncompared .ensures) no
-    ∙ first-refused (g .first .now) (g .second .now) (r .read .result) (r .read .ensures) _ no
+    passed _ (r .read-in .result .answer) _ (c .uncompared .ensures) no ∙ first-refused (g .first .now) (g .second .now) (got r) (is-got r) _ no
 
-read-requires-2 : tie.Need-read-requires-2
-read-requires-2 c κs = search needs
+read-in-requires-2 : tie.Need-read-in-requires-2
+read-in-requires-2 c κs = search needs
 
 enum-told-3 : tie.Need-enum-told-3
 enum-told-3 c = search needs
@@ -70,38 +125,53 @@ uncompared-requires-2 c κs = search needs
 returns-2 : tie.Need-returns-2
 returns-2 c =
     let q = c .before .before .before in
-    let r = q .before .before .before in
-    let g = r .before .before .before .args in
+    let r = done q in
+    let g = start r .args in
     let no = c .before .enum-told4 .given .1 in
-    passed _ (q .read2 .result .answer) _ (c .uncompared2 .ensures) no
-    ∙ second-refused (g .first .now) (g .second .now) (r .read .result) (r .read .ensures) (q .before .enum-told .given .1) (q .read2 .result) (q .read2 .ensures) _ no
+    passed _ (q .read-in2 .result .answer) _ (c .uncompared2 .ensures) no
+    ∙ second-refused (g .first .now) (g .second .now) (got r) (is-got r) (once q .enum-told .given .1) (got2 q) (is-got2 q) _ no
 
-compare-requires : tie.Need-compare-requires
-compare-requires c κs = search needs
+slice-aggregate-told : tie.Need-slice-aggregate-told
+slice-aggregate-told c = u-full (c .before)
+
+slice-aggregate-told-2 : tie.Need-slice-aggregate-told-2
+slice-aggregate-told-2 c = i-full (c .before .before)
+
+slice-aggregate-told-3 : tie.Need-slice-aggregate-told-3
+slice-aggregate-told-3 c = v-full (c .before .before .before)
+
+slice-aggregate-told-4 : tie.Need-slice-aggregate-told-4
+slice-aggregate-told-4 c = j-full (c .before .before .before .before)
+
+told-requires : tie.Need-told-requires
+told-requires c κs = let b = c .before .before .before .before in (lawful b, lawful2 b)
 
 returns-3 : tie.Need-returns-3
 returns-3 c =
-    let d = c .before .before .before in
-    let q = d .before .before in
-    let r = q .before .before .before in
-    let g = r .before .before .before .args in
-    let h : c .compare .result ≡ compared narrow (r .read .result .stamp) (q .read2 .result .stamp) = c .compare .ensures in
-    h
-    ∙ both-read (g .first .now) (g .second .now) (r .read .result) (r .read .ensures) (q .before .enum-told .given .1) (q .read2 .result) (q .read2 .ensures) (d .enum-told3 .given .1)
+    let b = c .before .before .before .before .before in
+    let q = twice b in
+    let r = done q in
+    let g = start r .args in
+    let h : c .told .result ≡ compared narrow (got r .stamp) (got2 q .stamp) = c .told .ensures in
+    h ∙ both-read (g .first .now) (g .second .now) (got r) (is-got r) (once q .enum-told .given .1) (got2 q) (is-got2 q) (b .enum-told3 .given .1)
 
 pub compare-spec : {M : Type 1} → statement M
 compare-spec =
     tie.close
     (tie.spec
-    read-requires
+    read-in-requires
     enum-told
     enum-told-2
     uncompared-requires
     returns
-    read-requires-2
+    read-in-requires-2
     enum-told-3
     enum-told-4
     uncompared-requires-2
     returns-2
-    compare-requires
+    slice-aggregate-told
+    slice-aggregate-told-2
+    slice-aggregate-told-3
+    slice-aggregate-told-4
+    told-requires
     returns-3)

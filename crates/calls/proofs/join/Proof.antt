@@ -1,22 +1,42 @@
--- `calls::join` meets its contract: what the readers refuse is passed out, the first's before the second's, then what the join refuses;
--- two lawful stamps that join make a lawful one, so that only a short buffer is left to refuse. Assumes nothing.
-use mathlib.Core.Path.{_≡_, sym}
-use mathlib.Core.Bool.{true}
-use mathlib.Core.List.{List}
+-- `calls::join` meets its contract: what the readers refuse is passed out, the first's before the second's, then what two stamps that meet are
+-- refused for; of the join of two lawful stamps only 7 and 10 are left to refuse. Assumes nothing.
+use mathlib.Core.Path.{_≡_, refl, sym, ap, _∙_}
+use mathlib.Core.Bool.{Bool, true, false}
+use mathlib.Core.List.{List, [], _∷_}
 use Prim.Native.Nat.{ℕ}
 use borrow.Author.Needs.{needs}
 use lib.Dec.{lit≤}
+use lib.ListN.{length}
 use Rattle.rules.specs.Limits.{narrow}
-use Rattle.rules.specs.Stored.{isStored}
-use Rattle.rules.specs.Values.{joined}
-use Rattle.rules.specs.Packed.{readStamp, wrote, writtenStamp, packedJoin}
+use Rattle.rules.specs.Stamps.{Stamp, join}
+use Rattle.rules.specs.Stored.{held, isStored, unlawful}
+use Rattle.rules.specs.Refusals.{first, andThen, many, overlap, unseen}
+use Rattle.rules.specs.Values.{joined, meeting}
+use Rattle.rules.specs.Packed.{Wrote, readStamp, wrote, packedJoin}
 use Rattle.rules.specs.declared.Given.{Given}
 use Rattle.rules.specs.declared.Refusal.{Refusal}
+use Rattle.rules.specs.declared.Refusal.the-variants.{Unlawful, Many, Overlap, Unseen}
 use Rattle.rules.specs.declared.Answer.the-variants.{Done, Refused}
 use Rattle.rules.specs.declared.Written.the-variants.{Refused as NotWritten}
-use Rattle.calls.proofs.Laws.{tells-same, tells-refused, read-stored, joined-stored, written-is}
+use Rattle.laws.proofs.Lawful.{lawful-join}
+use Rattle.laws.proofs.Stored.{stored-lawful, held-stored}
+use Rattle.names.proofs.Shape.{stored-full}
+use Rattle.stamps.proofs.Laws.{stored-names}
+use Rattle.packed.proofs.Lent.{givenBy, read-is}
+use Rattle.calls.specs.Joins.{wroteJoin}
+use Rattle.calls.proofs.Laws.{tells-same, tells-refused, read-stored}
 use Rattle.calls.proofs.join.Statement.{statement}
 use Rattle.calls.proofs.join.Tie as tie
+
+-- four tests and more: the more are asked where none of the four holds
+first-then : (a b c d : Bool) (more : List (Bool × Refusal))
+    → first ((a, Unlawful) ∷ (b, Unlawful) ∷ (c, Overlap) ∷ (d, Unseen) ∷ more) ≡ andThen (first ((a, Unlawful) ∷ (b, Unlawful) ∷ (c, Overlap) ∷ (d, Unseen) ∷ [])) (first more)
+unfolding first
+first-then true b c d more = refl
+first-then false true c d more = refl
+first-then false false true d more = refl
+first-then false false false true more = refl
+first-then false false false false more = refl
 
 module _ (s t l : List ℕ) (g : Given) (e : g ≡ readStamp narrow s) where
   first-refused : (r : Refusal) → g .answer ≡ Refused r → packedJoin narrow s t l ≡ record { answer = NotWritten r; out = l }
@@ -28,21 +48,85 @@ module _ (s t l : List ℕ) (g : Given) (e : g ≡ readStamp narrow s) where
     unfolding packedJoin wrote
     second-refused r q = rw (sym e, sym f, p, q)
 
-    module _ (q : h .answer ≡ Done) (j : Given) (d : j ≡ joined narrow (g .stamp) (h .stamp)) where
-      join-refused : (r : Refusal) → j .answer ≡ Refused r → packedJoin narrow s t l ≡ record { answer = NotWritten r; out = l }
-      unfolding packedJoin wrote
-      join-refused r k = rw (sym e, sym f, p, q, sym d, k)
+    module _ (q : h .answer ≡ Done) where
+      one : isStored narrow (g .stamp) ≡ true
+      one = read-stored narrow (lit≤ tt) s g e p
 
-      writes : j .answer ≡ Done → writtenStamp narrow (j .stamp) l ≡ packedJoin narrow s t l
-      unfolding packedJoin
-      writes k =
-          let first = read-stored narrow (lit≤ tt) s g e p in
-          let second = read-stored narrow (lit≤ tt) t h f q in
-          let stored : isStored narrow (j .stamp) ≡ true = rw d (joined-stored narrow (lit≤ tt) (g .stamp) (h .stamp) first second (rw (sym d) k)) in
-          rw (sym e, sym f, p, q, sym d, k) (written-is narrow (lit≤ tt) (j .stamp) l stored)
+      two : isStored narrow (h .stamp) ≡ true
+      two = read-stored narrow (lit≤ tt) t h f q
 
-read-requires : tie.Need-read-requires
-read-requires c κs = search needs
+      abbrev both : Stamp
+      both = join (held (g .stamp)) (held (h .stamp))
+
+      -- what comes after the tests of two that meet
+      meeting-then : (more : List (Bool × Refusal)) → first (meeting narrow (g .stamp) (h .stamp) more) ≡ andThen (first (meeting narrow (g .stamp) (h .stamp) [])) (first more)
+      meeting-then more =
+          first-then (unlawful narrow (g .stamp)) (unlawful narrow (h .stamp)) (overlap (held (g .stamp)) (held (h .stamp))) (unseen (held (g .stamp)) (held (h .stamp))) more
+
+      join-refused : (r : Refusal) → first (meeting narrow (g .stamp) (h .stamp) []) ≡ Refused r
+          → packedJoin narrow s t l ≡ record { answer = NotWritten r; out = l }
+      unfolding packedJoin wrote joined
+      join-refused r k = rw (sym e, sym f, p, q, meeting-then ((many narrow both, Many) ∷ []), k)
+
+      writes : first (meeting narrow (g .stamp) (h .stamp) []) ≡ Done → wroteJoin (g .stamp) (h .stamp) l ≡ packedJoin narrow s t l
+      unfolding packedJoin wroteJoin joined first wrote
+      writes k = by (many narrow both) refl where
+        by : (b : Bool) → many narrow both ≡ b → wroteJoin (g .stamp) (h .stamp) l ≡ packedJoin narrow s t l
+        by true m = rw (sym e, sym f, p, q, meeting-then ((many narrow both, Many) ∷ []), k, m)
+        by false m =
+            let z = lawful-join narrow (held (g .stamp)) (held (h .stamp)) (stored-lawful narrow (g .stamp) one) (stored-lawful narrow (h .stamp) two) m in
+            rw (sym e, sym f, p, q, meeting-then ((many narrow both, Many) ∷ []), k, m, held-stored narrow (lit≤ tt) both z)
+
+-- what was read, by value
+module _ (c : tie.After-read-in) where
+  abbrev start : tie.Start
+  start = c .before .before .before .before .before .before
+
+  abbrev got : Given
+  got = givenBy (c .read-in .result) (c .read-in .last .1 .0) (c .read-in .last .1 .1 .0)
+
+  is-got : got ≡ readStamp narrow (start .args .first .now)
+  is-got = read-is _ _ _ _ (c .read-in .ensures .0) (c .read-in .ensures .1) (c .read-in .ensures .2)
+
+module _ (c : tie.After-read-in2) where
+  abbrev once : tie.After-enum-told
+  once = c .before .before .before
+
+  abbrev done : tie.After-read-in
+  done = once .before .before
+
+  abbrev got2 : Given
+  got2 = givenBy (c .read-in2 .result) (c .read-in2 .last .1 .0) (c .read-in2 .last .1 .1 .0)
+
+  is-got2 : got2 ≡ readStamp narrow (start done .args .second .now)
+  is-got2 = read-is _ _ _ _ (c .read-in2 .ensures .0) (c .read-in2 .ensures .1) (c .read-in2 .ensures .2)
+
+-- both are lawful
+module _ (c : tie.After-enum-told3) where
+  abbrev twice : tie.After-read-in2
+  twice = c .before .before
+
+  lawful : isStored narrow (got (done twice) .stamp) ≡ true
+  lawful = read-stored narrow (lit≤ tt) (start (done twice) .args .first .now) (got (done twice)) (is-got (done twice)) (once twice .enum-told .given .1)
+
+  lawful2 : isStored narrow (got2 twice .stamp) ≡ true
+  lawful2 = read-stored narrow (lit≤ tt) (start (done twice) .args .second .now) (got2 twice) (is-got2 twice) (c .enum-told3 .given .1)
+
+  -- a record has so many words
+  u-full : 16 ≡ length (got (done twice) .stamp .update .words)
+  u-full = sym (stored-full narrow _ (stored-names narrow (got (done twice) .stamp) lawful .0))
+
+  i-full : 16 ≡ length (got (done twice) .stamp .id .words)
+  i-full = sym (stored-full narrow _ (stored-names narrow (got (done twice) .stamp) lawful .1))
+
+  v-full : 16 ≡ length (got2 twice .stamp .update .words)
+  v-full = sym (stored-full narrow _ (stored-names narrow (got2 twice .stamp) lawful2 .0))
+
+  j-full : 16 ≡ length (got2 twice .stamp .id .words)
+  j-full = sym (stored-full narrow _ (stored-names narrow (got2 twice .stamp) lawful2 .1))
+
+read-in-requires : tie.Need-read-in-requires
+read-in-requires c κs = search needs
 
 enum-told : tie.Need-enum-told
 enum-told c = search needs
@@ -56,13 +140,13 @@ refused-requires c κs = search needs
 returns : tie.Need-returns
 returns c =
     let r = c .before .before .before in
-    let g = r .before .before .before .before .args in
+    let g = start r .args in
     let no = c .before .enum-told2 .given .1 in
-    tells-refused _ _ _ (r .read .result .answer) _ (c .refused .ensures) no
-    (first-refused (g .first .now) (g .second .now) (g .out .now) (r .read .result) (r .read .ensures) _ no)
+    tells-refused _ _ _ (r .read-in .result .answer) _ (c .refused .ensures) no
+    (first-refused (g .first .now) (g .second .now) (g .out .now) (got r) (is-got r) _ no)
 
-read-requires-2 : tie.Need-read-requires-2
-read-requires-2 c κs = search needs
+read-in-requires-2 : tie.Need-read-in-requires-2
+read-in-requires-2 c κs = search needs
 
 enum-told-3 : tie.Need-enum-told-3
 enum-told-3 c = search needs
@@ -76,15 +160,26 @@ refused-requires-2 c κs = search needs
 returns-2 : tie.Need-returns-2
 returns-2 c =
     let q = c .before .before .before in
-    let r = q .before .before .before in
-    let g = r .before .before .before .before .args in
+    let r = done q in
+    let g = start r .args in
     let no = c .before .enum-told4 .given .1 in
-    tells-refused _ _ _ (q .read2 .result .answer) _ (c .refused2 .ensures) no
-    (second-refused (g .first .now) (g .second .now) (g .out .now) (r .read .result) (r .read .ensures) (q .before .enum-told .given .1)
-    (q .read2 .result) (q .read2 .ensures) _ no)
+    tells-refused _ _ _ (q .read-in2 .result .answer) _ (c .refused2 .ensures) no
+    (second-refused (g .first .now) (g .second .now) (g .out .now) (got r) (is-got r) (once q .enum-told .given .1) (got2 q) (is-got2 q) _ no)
 
-join-requires : tie.Need-join-requires
-join-requires c κs = search needs
+slice-aggregate-met : tie.Need-slice-aggregate-met
+slice-aggregate-met c = u-full (c .before)
+
+slice-aggregate-met-2 : tie.Need-slice-aggregate-met-2
+slice-aggregate-met-2 c = i-full (c .before .before)
+
+slice-aggregate-met-3 : tie.Need-slice-aggregate-met-3
+slice-aggregate-met-3 c = v-full (c .before .before .before)
+
+slice-aggregate-met-4 : tie.Need-slice-aggregate-met-4
+slice-aggregate-met-4 c = j-full (c .before .before .before .before)
+
+met-requires : tie.Need-met-requires
+met-requires c κs = let b = c .before .before .before .before in (lawful b, lawful2 b)
 
 enum-told-5 : tie.Need-enum-told-5
 enum-told-5 c = search needs
@@ -97,18 +192,38 @@ refused-requires-3 c κs = search needs
 
 returns-3 : tie.Need-returns-3
 returns-3 c =
-    let j = c .before .before .before in
-    let d = j .before .before .before in
-    let q = d .before .before in
-    let r = q .before .before .before in
-    let g = r .before .before .before .before .args in
+    let m = c .before .before .before in
+    let b = m .before .before .before .before .before in
+    let q = twice b in
+    let r = done q in
+    let g = start r .args in
     let no = c .before .enum-told6 .given .1 in
-    tells-refused _ _ _ (j .join .result .answer) _ (c .refused3 .ensures) no
-    (join-refused (g .first .now) (g .second .now) (g .out .now) (r .read .result) (r .read .ensures) (q .before .enum-told .given .1)
-    (q .read2 .result) (q .read2 .ensures) (d .enum-told3 .given .1) (j .join .result) (j .join .ensures) _ no)
+    tells-refused _ _ _ (m .met .result) _ (c .refused3 .ensures) no
+    (join-refused (g .first .now) (g .second .now) (g .out .now) (got r) (is-got r) (once q .enum-told .given .1) (got2 q) (is-got2 q) (b .enum-told3 .given .1) _
+    (sym (m .met .ensures) ∙ no))
 
-write-requires : tie.Need-write-requires
-write-requires c κs = search needs
+-- where the two may meet
+module _ (c : tie.After-enum-told5) where
+  abbrev both-of : tie.After-enum-told3
+  both-of = c .before .before .before .before .before .before .before
+
+slice-aggregate-write-joined : tie.Need-slice-aggregate-write-joined
+slice-aggregate-write-joined c = u-full (both-of (c .before))
+
+slice-aggregate-write-joined-2 : tie.Need-slice-aggregate-write-joined-2
+slice-aggregate-write-joined-2 c = i-full (both-of (c .before .before))
+
+slice-aggregate-write-joined-3 : tie.Need-slice-aggregate-write-joined-3
+slice-aggregate-write-joined-3 c = v-full (both-of (c .before .before .before))
+
+slice-aggregate-write-joined-4 : tie.Need-slice-aggregate-write-joined-4
+slice-aggregate-write-joined-4 c = j-full (both-of (c .before .before .before .before))
+
+write-joined-requires : tie.Need-write-joined-requires
+write-joined-requires c κs =
+    let m = c .before .before .before .before .before .before .before in
+    let b = m .before .before .before .before .before in
+    (lawful b, lawful2 b)
 
 same-length : tie.Need-same-length
 same-length c = search needs
@@ -116,36 +231,44 @@ same-length c = search needs
 returns-4 : tie.Need-returns-4
 returns-4 c =
     let w = c .before .before in
-    let f = w .before .before .before in
-    let j = f .before .before in
-    let d = j .before .before .before in
-    let q = d .before .before in
-    let r = q .before .before .before in
-    let g = r .before .before .before .before .args in
+    let d = w .before .before .before .before .before .before in
+    let m = d .before .before in
+    let b = m .before .before .before .before .before in
+    let q = twice b in
+    let r = done q in
+    let g = start r .args in
     tells-same _ _ _ _
-    (writes (g .first .now) (g .second .now) (g .out .now) (r .read .result) (r .read .ensures) (q .before .enum-told .given .1)
-    (q .read2 .result) (q .read2 .ensures) (d .enum-told3 .given .1) (j .join .result) (j .join .ensures) (f .enum-told5 .given .1))
-    (w .write .ensures)
+    (writes (g .first .now) (g .second .now) (g .out .now) (got r) (is-got r) (once q .enum-told .given .1) (got2 q) (is-got2 q) (b .enum-told3 .given .1)
+    (sym (m .met .ensures) ∙ d .enum-told5 .given .1))
+    (w .write-joined .ensures)
 
 pub join-spec : {M : Type 1} → statement M
 join-spec =
     tie.close
     (tie.spec
-    read-requires
+    read-in-requires
     enum-told
     enum-told-2
     refused-requires
     returns
-    read-requires-2
+    read-in-requires-2
     enum-told-3
     enum-told-4
     refused-requires-2
     returns-2
-    join-requires
+    slice-aggregate-met
+    slice-aggregate-met-2
+    slice-aggregate-met-3
+    slice-aggregate-met-4
+    met-requires
     enum-told-5
     enum-told-6
     refused-requires-3
     returns-3
-    write-requires
+    slice-aggregate-write-joined
+    slice-aggregate-write-joined-2
+    slice-aggregate-write-joined-3
+    slice-aggregate-write-joined-4
+    write-joined-requires
     same-length
     returns-4)

@@ -1,0 +1,60 @@
+-- `calls::told` meets its contract: on the words of lawful stamps the walk tells how they compare. Assumes nothing.
+use mathlib.Core.Path.{sym, _∙_}
+use native.Mathlib.Omega.{arith}
+use borrow.Author.Needs.{needs}
+use lib.Seq.{length-take-le}
+use Rattle.rules.specs.Limits.{narrow}
+use Rattle.rules.specs.declared.Record.{Record}
+use Rattle.walks.proofs.Meets.{compare-walk}
+use Rattle.stamps.specs.Lent.{stamp}
+use Rattle.stamps.proofs.Laws.{stored-names}
+use Rattle.packed.proofs.Writing.{stored-inside}
+use Rattle.calls.proofs.told.Statement.{statement}
+use Rattle.calls.proofs.told.Tie as tie
+
+module _ (g : tie.Start) where
+  abbrev one : Record
+  one = stamp (g .args .uc) (g .args .u .now) (g .args .ic) (g .args .i .now)
+
+  abbrev other : Record
+  other = stamp (g .args .vc) (g .args .v .now) (g .args .jc) (g .args .j .now)
+
+-- there are as many words as the names have strings
+slice-aggregate-compare : tie.Need-slice-aggregate-compare
+slice-aggregate-compare c =
+    let g = c .before .before .before .before .before in
+    sym (length-take-le (g .args .uc) (g .args .u .now) (stored-inside (one g .update) (stored-names narrow (one g) (g .pre .0) .0)))
+
+slice-aggregate-compare-2 : tie.Need-slice-aggregate-compare-2
+slice-aggregate-compare-2 c =
+    let g = c .before .before .before .before .before .before in
+    sym (length-take-le (g .args .ic) (g .args .i .now) (stored-inside (one g .id) (stored-names narrow (one g) (g .pre .0) .1)))
+
+slice-aggregate-compare-3 : tie.Need-slice-aggregate-compare-3
+slice-aggregate-compare-3 c =
+    let g = c .before .before .before .before .before .before .before in
+    sym (length-take-le (g .args .vc) (g .args .v .now) (stored-inside (other g .update) (stored-names narrow (other g) (g .pre .1) .0)))
+
+slice-aggregate-compare-4 : tie.Need-slice-aggregate-compare-4
+slice-aggregate-compare-4 c =
+    let g = c .before .before .before .before .before .before .before .before in
+    sym (length-take-le (g .args .jc) (g .args .j .now) (stored-inside (other g .id) (stored-names narrow (other g) (g .pre .1) .1)))
+
+compare-requires : tie.Need-compare-requires
+compare-requires c κs = search needs
+
+returns : tie.Need-returns
+returns c =
+    let g = c .before .before .before .before .before .before .before .before .before in
+    c .compare .ensures ∙ compare-walk narrow (omega arith) (one g) (other g) (g .pre .0) (g .pre .1)
+
+pub told-spec : {M : Type 1} → statement M
+told-spec =
+    tie.close
+    (tie.spec
+    slice-aggregate-compare
+    slice-aggregate-compare-2
+    slice-aggregate-compare-3
+    slice-aggregate-compare-4
+    compare-requires
+    returns)
