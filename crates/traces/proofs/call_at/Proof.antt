@@ -1,4 +1,5 @@
 -- `traces::call_at` meets its contract: the test is that of the definition, and below it the three numbers are in the buffer. Assumes nothing.
+use mathlib.Core.Path.{refl}
 use borrow.Author.Tests.{lt-ltb, le-ltb}
 use Rattle.traces.specs.Inner.{callAt}
 use borrow.Author.Needs.{needs}
@@ -34,7 +35,7 @@ shared-slice-read-t18 c = search needs
 
 returns : tie.Need-returns
 unfolding callAt
-returns c = simp (lt-ltb _ _ (c .before .before .before .if1 .taken))
+returns c = simp (lt-ltb _ _ (c .before .before .before .if1 .taken)) refl
 
 returns-2 : tie.Need-returns-2
 unfolding callAt

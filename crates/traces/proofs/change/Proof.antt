@@ -196,7 +196,7 @@ module _ {M : Type 1} (𝓤 : URA M) (H : Heap 𝓤) (A : Atoms 𝓤) (W : Given
         -- [the token; what t owns; the numbers'; _12; …: local i at 3 + 2 (12 - i)]
         assigns ! (bin ! (load ! (from ! (stop !)) (look ! 23 refl)) (lit ! tt) tt) (from ! (stop !)) (init ! 15 refl (tt, tt)) $
         first ! $ branches ! (load ! (from ! (stop !)) (look ! 15 refl))
-        (λ yes′. let e₀ : eqb op 85 ≡ true = holds-true (eqb op 85) yes′ in
+        (λ yes′. let e₀ = holds-true (eqb op _) yes′ in
         assigns ! (addr ! (from ! (fld ! refl (hop ! (look-in ! 25 (sub ! 0 refl (whole !))) (stop !))))) (from ! (stop !)) (init ! 13 refl (tt, tt)) $
         assigns ! (agg ! (and-then ! (load ! (from ! (stop !)) (look ! 13 refl))
         (and-then ! (load ! (from ! (fld ! refl (stop !))) (look-in ! 25 (sub ! 1 refl (whole !)))) (no-more !)))) (from ! (stop !))
@@ -221,11 +221,11 @@ module _ {M : Type 1} (𝓤 : URA M) (H : Heap 𝓤) (A : Atoms 𝓤) (W : Given
         move ! (11 ∷ 12 ∷ []) $ free1 ! $
         move ! (9 ∷ 10 ∷ []) $ free1 ! $ move ! (7 ∷ 8 ∷ []) $ free1 ! $ move ! (5 ∷ 6 ∷ []) $ free1 ! $ free0 ! $
         keep ! (1 ∷ 2 ∷ 0 ∷ []) $ by ! (exits r w (ws .0) (simp (e₀) (said .0), simp (e₀) (said .1)) same))))))))
-        (λ no′. let e₀ : eqb op 85 ≡ false = holds-false (eqb op 85) no′ in skips ! $
+        (λ no′. let e₀ = holds-false (eqb op _) no′ in skips ! $
         exec ! C Λ _ code.Mir.t-3 (atRet (En l₀ l₁ l₂ l₃ l₄ l₅ l₆ l₇ l₈ l₉ l₁₀ l₁₁ l₁₂) Post) $
         assigns ! (bin ! (load ! (from ! (stop !)) (look ! 23 refl)) (lit ! tt) tt) (from ! (stop !)) (store ! 15 refl (tt, tt)) $
         first ! $ branches ! (load ! (from ! (stop !)) (look ! 15 refl))
-        (λ yes′. let e₁ : eqb op 70 ≡ true = holds-true (eqb op 70) yes′ in
+        (λ yes′. let e₁ = holds-true (eqb op _) yes′ in
         assigns ! (addr ! (from ! (fld ! refl (hop ! (look-in ! 25 (sub ! 0 refl (whole !))) (stop !))))) (from ! (stop !)) (init ! 9 refl (tt, tt)) $
         assigns ! (agg ! (and-then ! (load ! (from ! (stop !)) (look ! 9 refl))
         (and-then ! (load ! (from ! (fld ! refl (stop !))) (look-in ! 25 (sub ! 1 refl (whole !)))) (no-more !)))) (from ! (stop !))
@@ -250,11 +250,11 @@ module _ {M : Type 1} (𝓤 : URA M) (H : Heap 𝓤) (A : Atoms 𝓤) (W : Given
         move ! (11 ∷ 12 ∷ []) $ free1 ! $
         move ! (9 ∷ 10 ∷ []) $ free1 ! $ move ! (7 ∷ 8 ∷ []) $ free1 ! $ move ! (5 ∷ 6 ∷ []) $ free1 ! $ free0 ! $
         keep ! (1 ∷ 2 ∷ 0 ∷ []) $ by ! (exits r w (ws .0) (simp (e₀, e₁) (said .0), simp (e₀, e₁) (said .1)) same))))))))
-        (λ no′. let e₁ : eqb op 70 ≡ false = holds-false (eqb op 70) no′ in skips ! $
+        (λ no′. let e₁ = holds-false (eqb op _) no′ in skips ! $
         exec ! C Λ _ code.Mir.t-5 (atRet (En l₀ l₁ l₂ l₃ l₄ l₅ l₆ l₇ l₈ l₉ l₁₀ l₁₁ l₁₂) Post) $
         assigns ! (bin ! (load ! (from ! (stop !)) (look ! 23 refl)) (lit ! tt) tt) (from ! (stop !)) (store ! 15 refl (tt, tt)) $
         first ! $ branches ! (load ! (from ! (stop !)) (look ! 15 refl))
-        (λ yes′. let e₂ : eqb op 74 ≡ true = holds-true (eqb op 74) yes′ in
+        (λ yes′. let e₂ = holds-true (eqb op _) yes′ in
         assigns ! (addr ! (from ! (fld ! refl (hop ! (look-in ! 25 (sub ! 0 refl (whole !))) (stop !))))) (from ! (stop !)) (init ! 5 refl (tt, tt)) $
         assigns ! (agg ! (and-then ! (load ! (from ! (stop !)) (look ! 5 refl))
         (and-then ! (load ! (from ! (fld ! refl (stop !))) (look-in ! 25 (sub ! 1 refl (whole !)))) (no-more !)))) (from ! (stop !))
@@ -279,7 +279,7 @@ module _ {M : Type 1} (𝓤 : URA M) (H : Heap 𝓤) (A : Atoms 𝓤) (W : Given
         move ! (11 ∷ 12 ∷ []) $ free1 ! $
         move ! (9 ∷ 10 ∷ []) $ free1 ! $ move ! (7 ∷ 8 ∷ []) $ free1 ! $ move ! (5 ∷ 6 ∷ []) $ free1 ! $ free0 ! $
         keep ! (1 ∷ 2 ∷ 0 ∷ []) $ by ! (exits r w (ws .0) (simp (e₀, e₁, e₂) (said .0), simp (e₀, e₁, e₂) (said .1)) same))))))))
-        (λ no′. let e₂ : eqb op 74 ≡ false = holds-false (eqb op 74) no′ in skips ! $
+        (λ no′. let e₂ = holds-false (eqb op _) no′ in skips ! $
         exec ! C Λ _ code.Mir.t-7 (atRet (En l₀ l₁ l₂ l₃ l₄ l₅ l₆ l₇ l₈ l₉ l₁₀ l₁₁ l₁₂) Post) $
         assigns ! (of-opd ! (load ! (from ! (stop !)) (look ! 17 refl))) (from ! (stop !)) (init ! 27 refl (tt, record { fits = gm })) $
         returns ! (look ! 27 refl) $

@@ -1,4 +1,5 @@
 -- `traces::put_at` meets its contract: the test is that of the definition, and below it the place is in the buffer. Assumes nothing.
+use mathlib.Core.Path.{refl}
 use borrow.Author.Tests.{lt-ltb, le-ltb}
 use Rattle.traces.specs.Inner.{putAt}
 use borrow.Author.Needs.{needs}
@@ -22,7 +23,7 @@ same-length c = search needs
 
 returns : tie.Need-returns
 unfolding putAt
-returns c = (search needs, simp (lt-ltb _ _ (c .if1 .taken)))
+returns c = (search needs, simp (lt-ltb _ _ (c .if1 .taken)) refl)
 
 returns-2 : tie.Need-returns-2
 unfolding putAt

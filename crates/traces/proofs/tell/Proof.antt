@@ -167,7 +167,7 @@ module _ {M : Type 1} (𝓤 : URA M) (H : Heap 𝓤) (A : Atoms 𝓤) (W : Given
         -- [the token; what t owns; the numbers'; _5; …: local i at 3 + 2 (5 - i)]
         assigns ! (bin ! (load ! (from ! (stop !)) (look ! 9 refl)) (lit ! tt) tt) (from ! (stop !)) (init ! 3 refl (tt, tt)) $
         first ! $ branches ! (load ! (from ! (stop !)) (look ! 3 refl))
-        (λ yes′. let e₀ : eqb op 67 ≡ true = holds-true (eqb op 67) yes′ in
+        (λ yes′. let e₀ = holds-true (eqb op _) yes′ in
         move ! (1 ∷ []) $ use1 W (‵ Own ⊛ ‵ Own) (shr-slice-copy 𝓤 H A W (named 0) κ T.the-row .twice ref (s ∷ [])) $ split ! $ move ! (2 ∷ 0 ∷ []) $
         use2 W (raw (Compare 𝓤 H A at-mem run .pre to-compare)) goes-compare $
         calls-at ! fm (Compare 𝓤 H A at-mem run) known-compare to-compare (and-then ! (load ! (from ! (stop !)) (look ! 11 refl)) (and-then ! (load !
@@ -184,10 +184,10 @@ module _ {M : Type 1} (𝓤 : URA M) (H : Heap 𝓤) (A : Atoms 𝓤) (W : Given
         move ! (6 ∷ 7 ∷ []) $ free1 ! $
         move ! (4 ∷ 5 ∷ []) $ free1 ! $ free0 ! $
         keep ! (1 ∷ 2 ∷ 0 ∷ []) $ by ! (exits r w (simp (e₀) said)))))))
-        (λ no′. let e₀ : eqb op 67 ≡ false = holds-false (eqb op 67) no′ in skips ! $ exec ! C Λ _ code.Mir.t-3 (atRet (En l₀ l₁ l₂ l₃ l₄ l₅) Post) $
+        (λ no′. let e₀ = holds-false (eqb op _) no′ in skips ! $ exec ! C Λ _ code.Mir.t-3 (atRet (En l₀ l₁ l₂ l₃ l₄ l₅) Post) $
         assigns ! (bin ! (load ! (from ! (stop !)) (look ! 9 refl)) (lit ! tt) tt) (from ! (stop !)) (store ! 3 refl (tt, tt)) $
         first ! $ branches ! (load ! (from ! (stop !)) (look ! 3 refl))
-        (λ yes′. let e₁ : eqb op 83 ≡ true = holds-true (eqb op 83) yes′ in
+        (λ yes′. let e₁ = holds-true (eqb op _) yes′ in
         move ! (1 ∷ []) $ use1 W (‵ Own ⊛ ‵ Own) (shr-slice-copy 𝓤 H A W (named 0) κ T.the-row .twice ref (s ∷ [])) $ split ! $ move ! (2 ∷ 0 ∷ []) $
         use2 W (raw (Spare 𝓤 H A at-mem run .pre to-spare)) goes-spare $
         calls-at ! fm (Spare 𝓤 H A at-mem run) known-spare to-spare (and-then ! (load ! (from ! (stop !)) (look ! 11 refl)) (and-then ! (load ! (from !
@@ -204,7 +204,7 @@ module _ {M : Type 1} (𝓤 : URA M) (H : Heap 𝓤) (A : Atoms 𝓤) (W : Given
         move ! (6 ∷ 7 ∷ []) $ free1 ! $
         move ! (4 ∷ 5 ∷ []) $ free1 ! $ free0 ! $
         keep ! (1 ∷ 2 ∷ 0 ∷ []) $ by ! (exits r w (simp (e₀, e₁) said)))))))
-        (λ no′. let e₁ : eqb op 83 ≡ false = holds-false (eqb op 83) no′ in skips ! $ exec ! C Λ _ code.Mir.t-5 (atRet (En l₀ l₁ l₂ l₃ l₄ l₅) Post) $
+        (λ no′. let e₁ = holds-false (eqb op _) no′ in skips ! $ exec ! C Λ _ code.Mir.t-5 (atRet (En l₀ l₁ l₂ l₃ l₄ l₅) Post) $
         assigns ! (of-opd ! (lit ! tt)) (from ! (stop !)) (init ! 13 refl (tt, record { fits = lit< tt })) $
         returns ! (look ! 13 refl) $
         forget ! 3 refl $ forget ! 5 refl $ forget ! 7 refl $ forget ! 9 refl $ forget ! 11 refl $ forget ! 13 refl $
