@@ -42,8 +42,8 @@ pub fn update(stamp: &[u8], out: &mut [u8]) -> Written
     let Answer::Done = a else {
         return refused(a);
     };
-    let n = c.id;
-    write_alike(&i[..n], out)
+    let k = c.id;
+    write_alike(&i[..k], out)
 }
 
 // The 0 branch into zero and the 1 branch into one, or neither.
@@ -86,15 +86,11 @@ pub fn join(first: &[u8], second: &[u8], out: &mut [u8]) -> Written
     let Answer::Done = b else {
         return refused(b);
     };
-    let m = met(
-        &u, c.update, &i, c.id, &v, d.update, &j, d.id,
-    );
+    let m = met(&u, c.update, &i, c.id, &v, d.update, &j, d.id);
     let Answer::Done = m else {
         return refused(m);
     };
-    write_joined(
-        &u, c.update, &i, c.id, &v, d.update, &j, d.id, out,
-    )
+    write_joined(&u, c.update, &i, c.id, &v, d.update, &j, d.id, out)
 }
 
 // How the first stands to the second.
@@ -103,21 +99,19 @@ pub fn compare(first: &[u8], second: &[u8]) -> Compared
 {
     let mut u = [0; 16];
     let mut i = [0; 16];
-    let c = read_in(first, &mut u, &mut i);
-    let a = c.answer;
+    let p = read_in(first, &mut u, &mut i);
+    let a = p.answer;
     let Answer::Done = a else {
         return uncompared(a);
     };
     let mut v = [0; 16];
     let mut j = [0; 16];
-    let d = read_in(second, &mut v, &mut j);
-    let b = d.answer;
+    let q = read_in(second, &mut v, &mut j);
+    let b = q.answer;
     let Answer::Done = b else {
         return uncompared(b);
     };
-    told(
-        &u, c.update, &i, c.id, &v, d.update, &j, d.id,
-    )
+    told(&u, p.update, &i, p.id, &v, q.update, &j, q.id)
 }
 
 // The one to keep, itself: the first if equal or newer, the second if the first is obsolete; an empty part of the first on conflict or refusal.
@@ -204,14 +198,7 @@ fn write_joined<'a>(
 {
     let mut update = [0u64; ROOM];
     let mut id = [0u64; ROOM];
-    let k = unions::join(
-        &u[..uc],
-        &i[..ic],
-        &v[..vc],
-        &j[..jc],
-        &mut update,
-        &mut id,
-    );
+    let k = unions::join(&u[..uc], &i[..ic], &v[..vc], &j[..jc], &mut update, &mut id);
     let m = k.update;
     let n = k.id;
     if STRINGS < n {

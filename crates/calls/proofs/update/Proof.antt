@@ -4,6 +4,7 @@ use mathlib.Core.Path.{_≡_, sym, ap, _∙_}
 use mathlib.Core.Bool.{true}
 use mathlib.Core.List.{List}
 use Prim.Native.Nat.{ℕ, _≤_}
+use native.Mathlib.Omega.{arith}
 use borrow.Author.Needs.{needs}
 use lib.Dec.{lit≤}
 use lib.ListN.{length, take}
@@ -17,10 +18,11 @@ use Rattle.rules.specs.declared.Record.{Record}
 use Rattle.rules.specs.declared.Refusal.{Refusal}
 use Rattle.rules.specs.declared.Answer.the-variants.{Done, Refused}
 use Rattle.rules.specs.declared.Written.the-variants.{Refused as NotWritten}
-use Rattle.stamps.proofs.Laws.{stored-names, updated-is}
+use Rattle.names.proofs.Shape.{stored-full}
+use Rattle.stamps.proofs.Laws.{stored-few, stored-names, updated-is}
 use Rattle.packed.specs.Fits.{writtenNames}
 use Rattle.packed.proofs.Lent.{givenBy, read-is}
-use Rattle.packed.proofs.Writing.{stored-inside, written-is}
+use Rattle.packed.proofs.Writing.{written-is}
 use Rattle.calls.proofs.Laws as laws
 use Rattle.calls.proofs.Laws.{tells-same, tells-refused, read-stored, updated-done, updated-stored}
 use Rattle.calls.proofs.update.Statement.{statement}
@@ -81,7 +83,7 @@ returns c =
     let no = c .before .enum-told2 .given .1 in
     tells-refused _ _ _ (r .read-in .result .answer) _ (c .refused .ensures) no (not-read (g .stamp .now) (g .out .now) (got r) (is-got r) _ no)
 
--- there are as many words as the id has strings
+-- a stamp was read
 module _ (c : tie.After-enum-told) where
   abbrev read : tie.After-read-in
   read = c .before .before
@@ -89,16 +91,20 @@ module _ (c : tie.After-enum-told) where
   lawful : isStored narrow (got read .stamp) ≡ true
   lawful = is-read (start read .args .stamp .now) (start read .args .out .now) (got read) (is-got read) (c .enum-told .given .1)
 
-  inside : got read .stamp .id .count ≤ length (got read .stamp .id .words)
-  inside = stored-inside (got read .stamp .id) (stored-names narrow (got read .stamp) lawful .1)
+  -- neither name has more strings than a record has words
+  inside : (got read .stamp .id .count ≤ length (got read .stamp .id .words)) × (got read .stamp .update .count ≤ length (got read .stamp .id .words))
+  inside =
+      let n = stored-names narrow (got read .stamp) lawful in
+      let f = stored-full narrow (got read .stamp .id) (n .1) in
+      (omega (arith, f, stored-few narrow (got read .stamp .id) (n .1)), omega (arith, f, stored-few narrow (got read .stamp .update) (n .0)))
 
 array-share-prefix-i : tie.Need-array-share-prefix-i
-array-share-prefix-i c = inside c
+array-share-prefix-i c = let h = inside c in omega (arith, h .0, h .1)
 
 slice-aggregate-write-alike : tie.Need-slice-aggregate-write-alike
 slice-aggregate-write-alike c =
-    let e = c .before in
-    sym (length-take-le (got (read e) .stamp .id .count) (got (read e) .stamp .id .words) (inside e))
+    let h = inside (c .before) in
+    sym (length-take-le _ _ (omega (arith, h .0, h .1)))
 
 write-alike-requires : tie.Need-write-alike-requires
 write-alike-requires c κs = search needs
