@@ -1,6 +1,6 @@
 -- What one pass over the table answers: the lowest absent slot, and whether slot a's copy may go. Assumes nothing.
 use mathlib.Core.Path.{_≡_, refl, sym, ap, subst, _∙_}
-use mathlib.Core.Bool.{Bool, true, false, cond, _||_}
+use mathlib.Core.Bool.{Bool, true, false, cond, not, _||_}
 use mathlib.Core.List.{[], _∷_}
 use Prim.Native.Nat.{ℕ, zero, suc, _+_, _≤_, _<_}
 use native.Mathlib.Numerals.{add-one}
@@ -13,7 +13,7 @@ use Rattle.rules.specs.Refusals.{first, overlap, unseen}
 use Rattle.rules.specs.Stamps.{compare}
 use Rattle.rules.specs.Stored.{absent, unlawful, isStored, held}
 use Rattle.rules.specs.Tables.{Table, lowest, full, spareFrom, orNext, sparedNumber}
-use Rattle.rules.specs.Values.{told}
+use Rattle.rules.specs.Values.{told, meeting, compared}
 use Rattle.rules.specs.declared.Record.{Record}
 use Rattle.rules.specs.declared.Answer.{Answer}
 use Rattle.rules.specs.declared.Answer.the-variants.{Done, Refused}
@@ -22,9 +22,9 @@ use Rattle.rules.specs.declared.Spared.{Spared}
 use Rattle.rules.specs.declared.Verdict.{Verdict}
 use Rattle.rules.specs.declared.Verdict.the-variants.{Equal, Obsolete, Newer, Conflict}
 use Rattle.tables.specs.declared.Scan.{Scan}
-use Rattle.tables.specs.Rules.{codeOf}
+use Rattle.tables.specs.Rules.{codeOf, tableCode, atTable}
 use Rattle.tables.specs.Scans.{nextOf, obsoleteNumber, spareCode, meetCode, seekOf, weighOf, lookOf, scanOf}
-use Rattle.tables.proofs.Forms.{compare-form}
+use Rattle.tables.proofs.Forms.{table-code, first-table}
 
 next-is : (k : ℕ) → k < 32 → nextOf k ≡ k + 1
 unfolding nextOf
@@ -127,20 +127,21 @@ abbrev pairCode : Answer → Verdict → ℕ
 pairCode Done v = obsoleteNumber v
 pairCode (Refused r) v = codeOf r
 
-spare-told : (b : Answer) (v : Verdict) → spareCode (told b v) ≡ pairCode b v
-spare-told Done v = refl
-spare-told (Refused r) v = refl
+table-spare : (b : Answer) (v : Verdict) → tableCode (spareCode (told b v)) ≡ pairCode (atTable b) v
+unfolding tableCode
+table-spare Done Equal = refl
+table-spare Done Obsolete = refl
+table-spare Done Newer = refl
+table-spare Done Conflict = refl
+table-spare (Refused r) v = table-code r
 
 meet-answer : (m r : Record) → isStored narrow m ≡ true
     → meetCode m r ≡ pairCode (meets m r) (compare (held m) (held r))
-unfolding meetCode first unlawful
-meet-answer m r e = by (isStored narrow r) refl
-  where
-    by : (b : Bool) → isStored narrow r ≡ b → meetCode m r ≡ pairCode (meets m r) (compare (held m) (held r))
-    by true d =
-        simp d (ap spareCode (compare-form m r e d) ∙ spare-told (first ((overlap (held m) (held r), Overlap) ∷ (unseen (held m) (held r), Unseen) ∷ []))
-        (compare (held m) (held r)))
-    by false d = simp d
+unfolding meetCode compared first unlawful
+meet-answer m r e =
+    table-spare (first (meeting narrow m r [])) (compare (held m) (held r))
+    ∙ ap (λ (b : Answer). pairCode b (compare (held m) (held r))) (first-table (meeting narrow m r []))
+    ∙ ap (λ (b : Bool). pairCode (cond (not b) (Refused Unfit) (meets m r)) (compare (held m) (held r))) e
 
 goes-on : (m : Record) (k a : ℕ) (t : Table) (x : Spared) (b : Answer) (v : Verdict) → scanOf (weighing m k a 0) t .code ≡ sparedNumber x
     → scanOf (weighing m k a (pairCode b v)) t .code ≡ sparedNumber (orNext b v x)

@@ -4,7 +4,7 @@ use mathlib.Core.Bool.{Bool, true, false, cond, _||_}
 use mathlib.Core.List.{[], _∷_}
 use Prim.Native.Nat.{ℕ, _+_, _≤_, _<_}
 use native.Mathlib.Omega.{arith}
-use borrow.Author.Tests.{eqb-true, eqb-false, leb-true, leb-false, ltb-false}
+use borrow.Author.Tests.{eq-eqb, eqb-true, eqb-false, leb-true, leb-false, ltb-false}
 use lib.Dec.{eqb, leb, ltb}
 use lib.ListN.{length, set}
 use lib.Seq.{set-getD}
@@ -12,7 +12,7 @@ use Rattle.laws.proofs.Below.{below-refl}
 use Rattle.laws.proofs.Tests.{clash}
 use Rattle.rules.specs.Limits.{narrow, records}
 use Rattle.rules.specs.Packed.{comparedNumber}
-use Rattle.rules.specs.Refusals.{first, long}
+use Rattle.rules.specs.Refusals.{first, long, many}
 use Rattle.rules.specs.Stamps.{Stamp, update, fork, join, compare}
 use Rattle.rules.specs.Stored.{stored, blank, absent, unlawful, held}
 use Rattle.rules.specs.Tables.{Table, outside, at, badSize, noSlot, lowest, full, stepped, slotNumber, sparedNumber}
@@ -20,11 +20,11 @@ use Rattle.rules.specs.Tables.{updateAt, forkAt, joinAt, compareAt, spareAt}
 use Rattle.rules.specs.declared.Record.{Record}
 use Rattle.rules.specs.declared.Answer.{Answer}
 use Rattle.rules.specs.declared.Answer.the-variants.{Done, Refused}
-use Rattle.rules.specs.declared.Refusal.the-variants.{Long}
+use Rattle.rules.specs.declared.Refusal.the-variants.{Long, Many}
 use Rattle.rules.specs.declared.Verdict.the-variants.{Equal}
 use Rattle.tables.specs.declared.Scan.{Scan}
 use Rattle.tables.specs.Gates.{gateCode, zeros}
-use Rattle.tables.specs.Rules.{oneOf, twoOf, slotTests, pairTests, meetTests, updateRule, forkRule, joinRule, compareRule}
+use Rattle.tables.specs.Rules.{answerCode, oneOf, twoOf, slotTests, pairTests, meetTests, updateRule, forkRule, joinRule, compareRule}
 use Rattle.tables.specs.Rules.{forkCode, forkList}
 use Rattle.tables.specs.Scans.{scanOf, seekStart, weighStart}
 use Rattle.tables.proofs.Forms.{lawful-then}
@@ -110,16 +110,25 @@ compare-self : (s : Stamp) → compare s s ≡ Equal
 unfolding compare
 compare-self s = rw (below-refl (s .update)) refl
 
--- a slot is equal to itself
-same-slot : (t : Table) (a b : ℕ) → cond (eqb a b) Equal (compare (held (at t a)) (held (at t b))) ≡ compare (held (at t a)) (held (at t b))
-same-slot t a b = by (eqb a b) refl
+-- a slot is equal to itself, where it has a lawful record
+same-slot : (t : Table) (a : ℕ) → badCount (length t) ≡ false → leb (length t) a ≡ false
+    → answerCode (first (slotTests (at t a) [])) 0 ≡ comparedNumber (compareAt narrow t a a)
+unfolding compareAt first badSize noSlot
+same-slot t a p q = by (absent narrow (at t a)) (unlawful narrow (at t a)) refl refl
   where
-    by : (e : Bool) → eqb a b ≡ e → cond e Equal (compare (held (at t a)) (held (at t b))) ≡ compare (held (at t a)) (held (at t b))
-    by true h = sym (compare-self (held (at t a))) ∙ ap (λ (n : ℕ). compare (held (at t a)) (held (at t n))) (eqb-true a b h)
-    by false h = refl
+    by : (x y : Bool) → absent narrow (at t a) ≡ x → unlawful narrow (at t a) ≡ y
+        → answerCode (first (slotTests (at t a) [])) 0 ≡ comparedNumber (compareAt narrow t a a)
+    by true y hx hy = simp (p, q, hx)
+    by false true hx hy = simp (p, q, hx, hy)
+    by false false hx hy = simp (p, q, hx, hy, eq-eqb a a refl, compare-self (held (at t a)))
 
 abbrev pub compareCode : Table → ℕ → ℕ → ℕ
 compareCode t a b = cond (eqb (gateCode (length t) a b) 0) (compareRule a b (at t a) (at t b)) (gateCode (length t) a b)
+
+compare-same : (t : Table) (a b : ℕ) → badCount (length t) ≡ false → leb (length t) a ≡ false → gateCode (length t) a b ≡ 0 → eqb a b ≡ true
+    → compareCode t a b ≡ comparedNumber (compareAt narrow t a b)
+unfolding compareRule
+compare-same t a b p q c e = simp (c, e) (same-slot t a p q ∙ ap (λ (n : ℕ). comparedNumber (compareAt narrow t a n)) (eqb-true a b e))
 
 pub compare-tied : (t : Table) (a b : ℕ) → compareCode t a b ≡ comparedNumber (compareAt narrow t a b)
 unfolding compareAt compareRule first badSize noSlot
@@ -131,11 +140,16 @@ compare-tied t a b = by (gates (length t) a b)
     one true z p q r c = simp (c, p, q, z)
     one false z p q r c = simp (c, p, q, r, z)
 
+    two : (z : Bool) → eqb a b ≡ z → badCount (length t) ≡ false → leb (length t) a ≡ false → leb (length t) b ≡ false → gateCode (length t) a b ≡ 0
+        → compareCode t a b ≡ comparedNumber (compareAt narrow t a b)
+    two true z p q r c = compare-same t a b p q c z
+    two false z p q r c = simp (c, p, q, r, z)
+
     by : Gate (length t) a b → compareCode t a b ≡ comparedNumber (compareAt narrow t a b)
     by (size p c) = simp (c, p)
     by (outA p q c) = simp (c, p, q)
     by (outB p q r c) = one (absent narrow (at t a)) refl p q r c
-    by (past p q r c) = simp (c, p, q, r, same-slot t a b)
+    by (past p q r c) = two (eqb a b) refl p q r c
 
 -- ---- join
 
@@ -161,7 +175,7 @@ join-tied t a b = by (gates (length t) a b)
     by (outA p q c) = (simp (c, p, q), simp (c, p, q))
     by (outB p q r c) = one (absent narrow (at t a)) refl p q r c
     by (past p q r c) =
-        let s = two-stepped (first (pairTests a b (at t a) (at t b) (meetTests (at t a) (at t b)))) t a a b
+        let s = two-stepped (first (pairTests a b (at t a) (at t b) (meetTests (at t a) (at t b) ((many narrow (join (held (at t a)) (held (at t b))), Many) ∷ [])))) t a a b
         (stored narrow (join (held (at t a)) (held (at t b)))) (blank narrow) in
         (simp (c, p, q, r) (s .0), simp (c, p, q, r) (s .1))
 

@@ -4,7 +4,7 @@ use mathlib.Core.List.{[], _∷_}
 use Prim.Native.Nat.{ℕ, _+_}
 use lib.Dec.{eqb, ltb}
 use Rattle.rules.specs.Limits.{narrow, records}
-use Rattle.rules.specs.Stored.{unlawful, absent}
+use Rattle.rules.specs.Stored.{absent}
 use Rattle.rules.specs.Refusals.{first}
 use Rattle.rules.specs.Values.{compared}
 use Rattle.rules.specs.Tables.{Table}
@@ -13,10 +13,9 @@ use Rattle.rules.specs.declared.Verdict.{Verdict}
 use Rattle.rules.specs.declared.Verdict.the-variants.{Equal, Obsolete, Newer, Conflict}
 use Rattle.rules.specs.declared.Compared.{Compared}
 use Rattle.rules.specs.declared.Compared.the-variants.{Is, Refused as NotCompared}
-use Rattle.rules.specs.declared.Refusal.the-variants.{Unfit}
 use Rattle.tables.specs.declared.Scan.{Scan}
 use Rattle.tables.specs.Gates.{zeros}
-use Rattle.tables.specs.Rules.{codeOf, answerCode, slotTests}
+use Rattle.tables.specs.Rules.{codeOf, tableCode, answerCode, slotTests}
 
 -- the slot after n, as far as a table goes
 unfoldable pub nextOf : ℕ → ℕ
@@ -34,7 +33,7 @@ spareCode (Is v) = obsoleteNumber v
 spareCode (NotCompared r) = codeOf r
 
 unfoldable pub meetCode : Record → Record → ℕ
-meetCode m r = cond (unlawful narrow r) (codeOf Unfit) (spareCode (compared narrow m r))
+meetCode m r = tableCode (spareCode (compared narrow m r))
 
 -- looking for an absent slot: 1 when one is found
 unfoldable pub seekOf : Scan → Record → Scan

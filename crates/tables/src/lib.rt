@@ -9,7 +9,7 @@ ghost use Rattle.rules.specs.Refusals.{first};
 ghost use Rattle.rules.specs.Stored.{sameWords, wordsOf, absent};
 ghost use Rattle.rules.specs.Tables.{slotNumber, sparedNumber, makeFresh, updateAt, forkAt, joinAt, compareAt, spareAt};
 ghost use Rattle.tables.specs.Gates.{gateCode, roomOf, roomCode, freshSlot, zeros};
-ghost use Rattle.tables.specs.Rules.{codeOf, answerCode, twoOf, slotTests, pairTests};
+ghost use Rattle.tables.specs.Rules.{codeOf, tableCode, atTable, answerCode, oneOf, twoOf, fullCode, slotTests, pairTests};
 ghost use Rattle.tables.specs.Rules.{updateRule, forkRule, joinRule, compareRule, forkCode, forkList};
 ghost use Rattle.tables.specs.Scans.{nextOf, obsoleteNumber, spareCode, meetCode, seekOf, weighOf, lookOf, scanOf, seekStart, weighStart};
 use answers::compared_code;
@@ -177,18 +177,10 @@ fn update_rule(a: usize, s: Record) -> One
             first: s,
         };
     }
-    if stamps::is_lawful(s) {
-        let g = stamps::update(s);
-        let x = g.stamp;
-        return One {
-            code: a as u64,
-            first: x,
-        };
-    }
-    One {
-        code: 1012,
-        first: s,
-    }
+    let g = stamps::update(s);
+    let answer = g.answer;
+    let x = g.stamp;
+    settle_one(answer, a, s, x)
 }
 
 // A copy of slot a in slot b: found is 0 where b is not absent.
@@ -216,16 +208,10 @@ fn fork_rule(b: usize, found: u64, s: Record, u: Record) -> Two
             second: u,
         };
     }
-    if !stamps::is_lawful(s) {
-        return Two {
-            code: 1012,
-            first: s,
-            second: u,
-        };
-    }
     if found == 0 {
+        let code = full_code(s);
         return Two {
-            code: 1005,
+            code: code,
             first: s,
             second: u,
         };
@@ -235,6 +221,16 @@ fn fork_rule(b: usize, found: u64, s: Record, u: Record) -> Two
     let x = f.zero;
     let y = f.one;
     settle_two(answer, b, s, u, x, y)
+}
+
+// What a fork of the record is refused for where no slot is absent.
+fn full_code(s: Record) -> u64
+    ensures { λ n. ⌜ n ≡ fullCode s ⌝ }
+{
+    if stamps::is_lawful(s) {
+        return 1005;
+    }
+    1012
 }
 
 // The rule of join: s and u are the records of slots a and b, of which b's becomes absent.
@@ -269,12 +265,6 @@ fn pair_code(a: usize, b: usize, s: Record, u: Record) -> u64
     if a == b {
         return 1004;
     }
-    if !stamps::is_lawful(s) {
-        return 1012;
-    }
-    if !stamps::is_lawful(u) {
-        return 1012;
-    }
     0
 }
 
@@ -282,22 +272,16 @@ fn pair_code(a: usize, b: usize, s: Record, u: Record) -> u64
 fn compare_rule(a: usize, b: usize, s: Record, u: Record) -> u64
     ensures { λ n. ⌜ n ≡ compareRule a b s u ⌝ }
 {
+    if a == b {
+        return slot_code(s);
+    }
     if is_absent(s) {
         return 1003;
     }
     if is_absent(u) {
         return 1003;
     }
-    if !stamps::is_lawful(s) {
-        return 1012;
-    }
-    if !stamps::is_lawful(u) {
-        return 1012;
-    }
-    if a == b {
-        return 0;
-    }
-    compared_code(stamps::compare(s, u))
+    table_code(compared_code(stamps::compare(s, u)))
 }
 
 // One pass over the table.
@@ -438,10 +422,7 @@ fn weigh(s: Scan, r: Record) -> Scan
 fn meet_code(m: Record, r: Record) -> u64
     ensures { λ n. ⌜ n ≡ meetCode m r ⌝ }
 {
-    if stamps::is_lawful(r) {
-        return spare_code(stamps::compare(m, r));
-    }
-    1012
+    table_code(spare_code(stamps::compare(m, r)))
 }
 
 // The slot after n, as far as a table goes.
@@ -454,9 +435,25 @@ fn after(n: usize) -> usize
     n
 }
 
+// The record s becomes x, or stays on a refusal.
+fn settle_one(answer: Answer, n: usize, s: Record, x: Record) -> One
+    ensures { λ d. ⌜ d ≡ oneOf (atTable answer) n s x ⌝ }
+{
+    match answer {
+        Answer::Done => One {
+            code: n as u64,
+            first: x,
+        },
+        Answer::Refused(r) => One {
+            code: table_code(refusal_code(r)),
+            first: s,
+        },
+    }
+}
+
 // The records p and q become x and y, or stay on a refusal.
 fn settle_two(answer: Answer, n: usize, p: Record, q: Record, x: Record, y: Record) -> Two
-    ensures { λ d. ⌜ d ≡ twoOf answer n p q x y ⌝ }
+    ensures { λ d. ⌜ d ≡ twoOf (atTable answer) n p q x y ⌝ }
 {
     match answer {
         Answer::Done => Two {
@@ -465,11 +462,21 @@ fn settle_two(answer: Answer, n: usize, p: Record, q: Record, x: Record, y: Reco
             second: y,
         },
         Answer::Refused(r) => Two {
-            code: refusal_code(r),
+            code: table_code(refusal_code(r)),
             first: p,
             second: q,
         },
     }
+}
+
+// A number at the table: what a rule by value refuses as unlawful, 2, is 12 here.
+fn table_code(n: u64) -> u64
+    ensures { λ r. ⌜ r ≡ tableCode n ⌝ }
+{
+    if n == 1002 {
+        return 1012;
+    }
+    n
 }
 
 // 1 where the comparison lets the first go, 0 where it keeps it.
