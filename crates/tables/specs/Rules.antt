@@ -56,10 +56,10 @@ slotTests s more = (absent narrow s, NoSlot) ∷ (unlawful narrow s, Unfit) ∷ 
 unfoldable pub updateRule : ℕ → Record → One
 updateRule a s = oneOf (first (slotTests s [])) a s (stored narrow (update (held s)))
 
--- s is slot a's record, u that of slot b, the lowest absent; where there is none, found is 0
+-- s and u are the records of slots a and b, of which b is the lowest absent, or a where none is
 unfoldable pub forkRule : ℕ → ℕ → Record → Record → Two
-forkRule b found s u =
-    twoOf (first (slotTests s ((eqb found 0, Full) ∷ (long narrow (held s), Long) ∷ []))) b s u
+forkRule a b s u =
+    twoOf (first (slotTests s ((eqb a b, Full) ∷ (long narrow (held s), Long) ∷ []))) b s u
     (stored narrow (fork false (held s)))
     (stored narrow (fork true (held s)))
 
@@ -94,9 +94,9 @@ compareRule a b s u =
 
 -- ---- the rule of fork at two slots of a table, behind the gate
 
-abbrev pub forkCode : Table → ℕ → ℕ → ℕ → ℕ
-forkCode t a b found = cond (eqb (gateCode (length t) a b) 0) (forkRule b found (at t a) (at t b) .code) (gateCode (length t) a b)
+abbrev pub forkCode : Table → ℕ → ℕ → ℕ
+forkCode t a b = cond (eqb (gateCode (length t) a b) 0) (forkRule a b (at t a) (at t b) .code) (gateCode (length t) a b)
 
-abbrev pub forkList : Table → ℕ → ℕ → ℕ → Table
-forkList t a b found =
-    cond (eqb (gateCode (length t) a b) 0) (set (set t a (forkRule b found (at t a) (at t b) .first)) b (forkRule b found (at t a) (at t b) .second)) t
+abbrev pub forkList : Table → ℕ → ℕ → Table
+forkList t a b =
+    cond (eqb (gateCode (length t) a b) 0) (set (set t a (forkRule a b (at t a) (at t b) .first)) b (forkRule a b (at t a) (at t b) .second)) t
