@@ -1,46 +1,124 @@
--- What one pass over the table answers: the lowest absent slot, and whether slot a's copy may go. Assumes nothing.
-use mathlib.Core.Path.{_≡_, refl, sym, ap, subst, _∙_}
-use mathlib.Core.Bool.{Bool, true, false, cond, _||_}
+-- What a pass over the table answers: the lowest absent slot, and whether slot a's copy may go. Assumes nothing.
+use mathlib.Core.Path.{_≡_, refl, sym, ap, _∙_}
+use mathlib.Core.Bool.{Bool, true, false, cond, not, _||_}
 use mathlib.Core.List.{[], _∷_}
 use Prim.Native.Nat.{ℕ, zero, suc, _+_, _≤_, _<_}
 use native.Mathlib.Numerals.{add-one}
 use native.Mathlib.Omega.{arith}
-use borrow.Author.Tests.{lt-ltb, eqb-true, eqb-false, eq-eqb, ne-eqb}
-use lib.Dec.{eqb}
-use lib.ListN.{length}
-use Rattle.rules.specs.Limits.{narrow}
+use borrow.Author.Tests.{lt-ltb, le-ltb, ltb-true, ltb-false, eqb-true, eqb-false, eq-eqb, ne-eqb}
+use lib.Dec.{eqb, ltb, lit≤}
+use lib.ListN.{length, getD, drop, drop-of-length-le}
+use lib.Seq.{drop-cons}
+use Rattle.laws.proofs.Tests.{clash}
+use Rattle.rules.specs.Limits.{narrow, records}
 use Rattle.rules.specs.Refusals.{first, overlap, unseen}
 use Rattle.rules.specs.Stamps.{compare}
 use Rattle.rules.specs.Stored.{absent, unlawful, isStored, held}
-use Rattle.rules.specs.Tables.{Table, lowest, full, spareFrom, orNext, sparedNumber}
-use Rattle.rules.specs.Values.{told}
+use Rattle.rules.specs.Tables.{Table, outside, lowest, full, spareFrom, orNext, sparedNumber}
+use Rattle.rules.specs.Values.{told, meeting, compared}
 use Rattle.rules.specs.declared.Record.{Record}
 use Rattle.rules.specs.declared.Answer.{Answer}
 use Rattle.rules.specs.declared.Answer.the-variants.{Done, Refused}
-use Rattle.rules.specs.declared.Refusal.the-variants.{Unfit, Overlap, Unseen}
+use Rattle.rules.specs.declared.Compared.{Compared}
+use Rattle.rules.specs.declared.Compared.the-variants.{Is, Refused as NotCompared}
+use Rattle.rules.specs.declared.Refusal.{Refusal}
+use Rattle.rules.specs.declared.Refusal.the-variants.{Malformed, Unlawful, NoSlot, OneSlot, Full, Long, Many, Overlap, Unseen, Short, Unread, Unfit, Ended}
 use Rattle.rules.specs.declared.Spared.{Spared}
 use Rattle.rules.specs.declared.Verdict.{Verdict}
 use Rattle.rules.specs.declared.Verdict.the-variants.{Equal, Obsolete, Newer, Conflict}
 use Rattle.tables.specs.declared.Scan.{Scan}
-use Rattle.tables.specs.Rules.{codeOf}
-use Rattle.tables.specs.Scans.{nextOf, obsoleteNumber, spareCode, meetCode, seekOf, weighOf, lookOf, scanOf}
-use Rattle.tables.proofs.Forms.{compare-form}
+use Rattle.tables.specs.Gates.{roomOf}
+use Rattle.tables.specs.Rules.{codeOf, tableCode, atTable, answerCode, slotTests}
+use Rattle.tables.specs.Scans.{found, foundOr, onwardTo, passOf, within, scanOf, seekOf, weighOf, obsoleteNumber, spareCode, meetCode}
+use Rattle.tables.proofs.Forms.{table-code, first-table}
 
-next-is : (k : ℕ) → k < 32 → nextOf k ≡ k + 1
-unfolding nextOf
-next-is k h = simp (lt-ltb k 32 h)
+-- ---- any pass
 
--- an answer that is found stays
-pub settled : (s : Scan) (t : Table) → (s .code ≡ 0 → ⊥) → scanOf s t ≡ s
-unfolding scanOf lookOf
-settled s [] h = refl
-settled s (r ∷ t) h = ap (λ (b : Bool). scanOf (cond b (cond (eqb (s .kind) 0) (seekOf s r) (weighOf s r)) s) t) (ne-eqb (s .code) 0 h) ∙ settled s t h
+-- what a look at a slot that there is does: it goes on to the next slot, or has found something
+abbrev pub Goes : (ℕ → Record → ℕ) → Type 0
+Goes look = (k : ℕ) (r : Record) → k < 32 → look k r < found → look k r ≡ k + 1
 
-abbrev seeking : Record → ℕ → ℕ → Scan
-seeking m k a = record { kind = 0; mine = m; next = k; at = a; code = 0 }
+-- a table that is gone over is not too large
+pub room-few : (n k : ℕ) → k < roomOf n → (k < n) × (n ≤ 32)
+unfolding roomOf
+room-few n k = by (ltb records n) refl
+  where
+    by : (b : Bool) → ltb records n ≡ b → k < cond b 0 n → (k < n) × (n ≤ 32)
+    by true e h = absurd (omega arith)
+    by false e h = (h, ltb-false records n e)
 
-abbrev weighing : Record → ℕ → ℕ → ℕ → Scan
-weighing m k a c = record { kind = 1; mine = m; next = k; at = a; code = c }
+within-few : (t : Table) → length t ≤ 32 → within t ≡ t
+unfolding within
+within-few t h = simp (le-ltb records (length t) h)
+
+within-length : (t : Table) → length (within t) ≡ roomOf (length t)
+unfolding within roomOf
+within-length t = by (ltb records (length t))
+  where
+    by : (b : Bool) → length (cond b [] t) ≡ cond b 0 (length t)
+    by true = refl
+    by false = refl
+
+module _ (look : ℕ → Record → ℕ) where
+  -- what is found stays
+  pass-found : (k : ℕ) (t : Table) → found ≤ k → passOf look k t ≡ k
+  unfolding passOf
+  pass-found k [] h = refl
+  pass-found k (r ∷ t) h = simp (le-ltb k found h)
+
+  pass-more : (k : ℕ) (r : Record) (t : Table) → k < 32 → passOf look k (r ∷ t) ≡ passOf look (look k r) t
+  unfolding passOf
+  pass-more k r t h = simp (lt-ltb k found (omega arith))
+
+  -- behind the last slot nothing is looked at
+  pub scan-end : (k : ℕ) (ys : Table) → roomOf (length ys) ≤ k → scanOf look k ys ≡ k
+  unfolding scanOf passOf
+  scan-end k ys h = ap (passOf look k) (drop-of-length-le (within ys) {i = k} (omega (arith, within-length ys)))
+
+  module _ (goes : Goes look) where
+    -- a pass goes up
+    pub goes-up : (k : ℕ) (r : Record) → k < 32 → k < look k r
+    goes-up k r h = by (ltb (look k r) found) refl
+      where
+        by : (b : Bool) → ltb (look k r) found ≡ b → k < look k r
+        by true e = omega (arith, goes k r h (ltb-true (look k r) found e))
+        by false e = omega (arith, ltb-false (look k r) found e)
+
+    -- one slot more
+    pub scan-more : (k : ℕ) (ys : Table) → k < roomOf (length ys) → scanOf look (look k (getD ys k outside)) ys ≡ scanOf look k ys
+    unfolding scanOf
+    scan-more k ys h =
+        let few = room-few (length ys) k h in
+        let n = look k (getD ys k outside) in
+        let w : within ys ≡ ys = within-few ys (few .1) in
+        ap (λ (t : Table). passOf look n (drop n t)) w
+        ∙ by n (ltb n found) refl (λ l. goes k (getD ys k outside) (omega arith) l)
+        ∙ sym (pass-more k (getD ys k outside) (drop (suc k) ys) (omega arith))
+        ∙ ap (passOf look k) (sym (drop-cons ys k outside (few .0)))
+        ∙ sym (ap (λ (t : Table). passOf look k (drop k t)) w)
+      where
+        by : (n : ℕ) (b : Bool) → ltb n found ≡ b → (n < found → n ≡ k + 1) → passOf look n (drop n ys) ≡ passOf look n (drop (suc k) ys)
+        by n true e g = ap (λ (i : ℕ). passOf look n (drop i ys)) (g (ltb-true n found e) ∙ add-one k)
+        by n false e g =
+            let l : found ≤ n = ltb-false n found e in
+            pass-found n (drop n ys) l ∙ sym (pass-found n (drop (suc k) ys) l)
+
+none-yet : (k d : ℕ) → k ≤ 32 → foundOr k d ≡ d
+unfolding foundOr
+none-yet k d h = simp (lt-ltb k found (omega arith))
+
+found-is : (n d : ℕ) → foundOr (found + n) d ≡ n
+unfolding foundOr
+found-is n d = simp (le-ltb (found + n) found (omega arith)) (omega arith)
+
+-- a pass that begins with an answer
+pub answered : (look : ℕ → Record → ℕ) (n : ℕ) (t : Table) → 1 ≤ n → foundOr (scanOf look (onwardTo 0 n) t) 0 ≡ n
+unfolding scanOf onwardTo
+answered look n t h =
+    simp (ne-eqb n 0 (λ z. omega arith))
+    (ap (λ (k : ℕ). foundOr k 0) (pass-found look (found + n) (drop (found + n) (within t)) (omega arith)) ∙ found-is n 0)
+
+-- ---- the lowest absent slot
 
 eqb-suc : (m n : ℕ) → eqb (suc m) (suc n) ≡ eqb m n
 eqb-suc m n = by (eqb m n) refl
@@ -66,43 +144,61 @@ full-miss : (r : Record) (t : Table) → absent narrow r ≡ false → full narr
 unfolding full
 full-miss r t e = rw (low-miss r t e) (eqb-suc (lowest narrow t) (length t))
 
-seek-hit : (m r : Record) (k a : ℕ) → absent narrow r ≡ true → k < 32 → lookOf (seeking m k a) r ≡ record { kind = 0; mine = m; next = k + 1; at = k; code = 1 }
-unfolding lookOf seekOf
-seek-hit m r k a e h = simp (e, next-is k h)
+sought-hit : (r : Record) (t : Table) (k : ℕ) → absent narrow r ≡ true → cond (full narrow (r ∷ t)) (k + length (r ∷ t)) (found + (k + lowest narrow (r ∷ t))) ≡ found + k
+sought-hit r t k e = rw (full-hit r t e, low-hit r t e) (let z : found + (k + 0) ≡ found + k = omega arith in z)
 
-seek-miss : (m r : Record) (k a : ℕ) → absent narrow r ≡ false → k < 32 → lookOf (seeking m k a) r ≡ seeking m (k + 1) a
-unfolding lookOf seekOf
-seek-miss m r k a e h = simp (e, next-is k h)
-
--- a pass in search of an absent slot, from slot k on: it finds the lowest, or leaves a
-pub record Sought (t : Table) (k a : ℕ) (s : Scan) : Type 0 where
-  pub slot : s .at ≡ cond (full narrow t) a (k + lowest narrow t)
-  pub found : s .code ≡ cond (full narrow t) 0 1
-
-sought-hit : (r : Record) (t : Table) (k a : ℕ) (u : Scan) → absent narrow r ≡ true → u .at ≡ k → u .code ≡ 1 → Sought (r ∷ t) k a u
-sought-hit r t k a u e p q = record { slot = rw (full-hit r t e, low-hit r t e) (omega arith); found = rw (full-hit r t e) q }
-
-sought-miss : (r : Record) (t : Table) (k a : ℕ) (u : Scan) → absent narrow r ≡ false → Sought t (k + 1) a u → Sought (r ∷ t) k a u
-sought-miss r t k a u e s =
-    record {
-      slot = rw (full-miss r t e, low-miss r t e) (s .slot
-          ∙ ap (cond (full narrow t) a) (let z : k + 1 + lowest narrow t ≡ k + suc (lowest narrow t) = omega arith in z));
-      found = rw (full-miss r t e) (s .found);
-    }
-
-pub sought : (m : Record) (k a : ℕ) (t : Table) → k + length t ≤ 32 → Sought t k a (scanOf (seeking m k a) t)
-unfolding scanOf full lowest
-sought m k a [] h = record { slot = refl; found = refl }
-sought m k a (r ∷ t) h = by (absent narrow r) refl (sought m (k + 1) a t (omega arith))
+sought-miss : (r : Record) (t : Table) (k : ℕ) → absent narrow r ≡ false
+    → cond (full narrow (r ∷ t)) (k + length (r ∷ t)) (found + (k + lowest narrow (r ∷ t)))
+    ≡ cond (full narrow t) (k + 1 + length t) (found + (k + 1 + lowest narrow t))
+sought-miss r t k e = rw (full-miss r t e, low-miss r t e) (by (full narrow t))
   where
-    by : (b : Bool) → absent narrow r ≡ b → Sought t (k + 1) a (scanOf (seeking m (k + 1) a) t) → Sought (r ∷ t) k a (scanOf (seeking m k a) (r ∷ t))
+    by : (b : Bool) → cond b (k + suc (length t)) (found + (k + suc (lowest narrow t))) ≡ cond b (k + 1 + length t) (found + (k + 1 + lowest narrow t))
+    by true = omega arith
+    by false = omega arith
+
+pub seek-goes : Goes seekOf
+unfolding seekOf
+seek-goes k r h = simp (lt-ltb k records h) (by (absent narrow r))
+  where
+    by : (b : Bool) → cond b (found + k) (k + 1) < found → cond b (found + k) (k + 1) ≡ k + 1
+    by true l = absurd (omega arith)
+    by false l = refl
+
+seek-hit : (k : ℕ) (r : Record) → absent narrow r ≡ true → k < 32 → seekOf k r ≡ found + k
+unfolding seekOf
+seek-hit k r e h = simp (e, lt-ltb k records h)
+
+seek-miss : (k : ℕ) (r : Record) → absent narrow r ≡ false → k < 32 → seekOf k r ≡ k + 1
+unfolding seekOf
+seek-miss k r e h = simp (e, lt-ltb k records h)
+
+-- from slot k on: it ends behind the last slot, or has found the lowest
+abbrev soughtFrom : ℕ → Table → ℕ
+soughtFrom k t = cond (full narrow t) (k + length t) (found + (k + lowest narrow t))
+
+sought : (k : ℕ) (t : Table) → k + length t ≤ 32 → passOf seekOf k t ≡ soughtFrom k t
+unfolding passOf full lowest
+sought k [] h = let e : k ≡ k + 0 = omega arith in e
+sought k (r ∷ t) h = pass-more seekOf k r t (omega arith) ∙ by (absent narrow r) refl (sought (k + 1) t (omega arith))
+  where
+    by : (b : Bool) → absent narrow r ≡ b → passOf seekOf (k + 1) t ≡ soughtFrom (k + 1) t → passOf seekOf (seekOf k r) t ≡ soughtFrom k (r ∷ t)
     by true e ih =
-        let s : Scan = record { kind = 0; mine = m; next = k + 1; at = k; code = 1 } in
-        let p : scanOf (lookOf (seeking m k a) r) t ≡ s = ap (λ (u : Scan). scanOf u t) (seek-hit m r k a e (omega arith)) ∙ settled s t (λ z. omega arith) in
-        sought-hit r t k a (scanOf (lookOf (seeking m k a) r) t) e (ap (λ (u : Scan). u .at) p) (ap (λ (u : Scan). u .code) p)
+        ap (λ (n : ℕ). passOf seekOf n t) (seek-hit k r e (omega arith))
+        ∙ pass-found seekOf (found + k) t (omega arith)
+        ∙ sym (sought-hit r t k e)
     by false e ih =
-        sought-miss r t k a (scanOf (lookOf (seeking m k a) r) t) e
-        (subst (λ (u : Scan). Sought t (k + 1) a (scanOf u t)) (sym (seek-miss m r k a e (omega arith))) ih)
+        ap (λ (n : ℕ). passOf seekOf n t) (seek-miss k r e (omega arith))
+        ∙ ih
+        ∙ sym (sought-miss r t k e)
+
+pub sought-slot : (t : Table) (a : ℕ) → length t ≤ 32 → foundOr (scanOf seekOf 0 t) a ≡ cond (full narrow t) a (lowest narrow t)
+unfolding scanOf
+sought-slot t a h =
+    ap (λ (n : ℕ). foundOr n a) (ap (λ (u : Table). passOf seekOf 0 (drop 0 u)) (within-few t h) ∙ sought 0 t (omega arith)) ∙ by (full narrow t)
+  where
+    by : (b : Bool) → foundOr (cond b (0 + length t) (found + (0 + lowest narrow t))) a ≡ cond b a (lowest narrow t)
+    by true = none-yet (0 + length t) a (omega arith)
+    by false = found-is (0 + lowest narrow t) a ∙ (let e : 0 + lowest narrow t ≡ lowest narrow t = omega arith in e)
 
 pub lowest-le : (t : Table) → lowest narrow t ≤ length t
 unfolding lowest
@@ -113,11 +209,33 @@ lowest-le (r ∷ t) = by (absent narrow r) (lowest-le t)
     by true h = omega arith
     by false h = omega arith
 
--- what a slot that is looked at makes of the answer: with no answer yet the pass goes on
-weigh-step : (m r : Record) (k a : ℕ) → k < 32
-    → lookOf (weighing m k a 0) r ≡ weighing m (k + 1) a (cond (eqb a k || absent narrow r) 0 (meetCode m r))
-unfolding lookOf weighOf
-weigh-step m r k a h = simp (next-is k h)
+-- and it is absent
+pub lowest-absent : (t : Table) → full narrow t ≡ false → absent narrow (getD t (lowest narrow t) outside) ≡ true
+unfolding lowest full
+lowest-absent [] f = absurd (clash refl f)
+lowest-absent (r ∷ t) f = by (absent narrow r) refl (lowest-absent t)
+  where
+    by : (b : Bool) → absent narrow r ≡ b → (full narrow t ≡ false → absent narrow (getD t (lowest narrow t) outside) ≡ true)
+        → absent narrow (getD (r ∷ t) (lowest narrow (r ∷ t)) outside) ≡ true
+    by true e ih = rw (low-hit r t e) e
+    by false e ih = rw (low-miss r t e) (ih (sym (full-miss r t e) ∙ f))
+
+-- ---- a copy that makes slot a's obsolete
+
+pub weigh-goes : (s : Scan) → Goes (weighOf s)
+unfolding weighOf onwardTo
+weigh-goes s k r h =
+    let n = cond (eqb (s .at) k || absent narrow r) 0 (meetCode (s .mine) r) in
+    simp (lt-ltb k records h) (by n (eqb n 0))
+  where
+    by : (n : ℕ) (b : Bool) → cond b (k + 1) (found + n) < found → cond b (k + 1) (found + n) ≡ k + 1
+    by n true l = refl
+    by n false l = absurd (omega arith)
+
+weigh-is : (s : Scan) (k : ℕ) (r : Record) → k < 32
+    → weighOf s k r ≡ onwardTo (k + 1) (cond (eqb (s .at) k || absent narrow r) 0 (meetCode (s .mine) r))
+unfolding weighOf
+weigh-is s k r h = simp (lt-ltb k records h)
 
 abbrev meets : Record → Record → Answer
 meets m r = first ((unlawful narrow r, Unfit) ∷ (overlap (held m) (held r), Overlap) ∷ (unseen (held m) (held r), Unseen) ∷ [])
@@ -127,41 +245,95 @@ abbrev pairCode : Answer → Verdict → ℕ
 pairCode Done v = obsoleteNumber v
 pairCode (Refused r) v = codeOf r
 
-spare-told : (b : Answer) (v : Verdict) → spareCode (told b v) ≡ pairCode b v
-spare-told Done v = refl
-spare-told (Refused r) v = refl
+table-spare : (b : Answer) (v : Verdict) → tableCode (spareCode (told b v)) ≡ pairCode (atTable b) v
+unfolding tableCode
+table-spare Done Equal = refl
+table-spare Done Obsolete = refl
+table-spare Done Newer = refl
+table-spare Done Conflict = refl
+table-spare (Refused r) v = table-code r
 
 meet-answer : (m r : Record) → isStored narrow m ≡ true
     → meetCode m r ≡ pairCode (meets m r) (compare (held m) (held r))
-unfolding meetCode first unlawful
-meet-answer m r e = by (isStored narrow r) refl
-  where
-    by : (b : Bool) → isStored narrow r ≡ b → meetCode m r ≡ pairCode (meets m r) (compare (held m) (held r))
-    by true d =
-        simp d (ap spareCode (compare-form m r e d) ∙ spare-told (first ((overlap (held m) (held r), Overlap) ∷ (unseen (held m) (held r), Unseen) ∷ []))
-        (compare (held m) (held r)))
-    by false d = simp d
+unfolding meetCode compared first unlawful
+meet-answer m r e =
+    table-spare (first (meeting narrow m r [])) (compare (held m) (held r))
+    ∙ ap (λ (b : Answer). pairCode b (compare (held m) (held r))) (first-table (meeting narrow m r []))
+    ∙ ap (λ (b : Bool). pairCode (cond (not b) (Refused Unfit) (meets m r)) (compare (held m) (held r))) e
 
-goes-on : (m : Record) (k a : ℕ) (t : Table) (x : Spared) (b : Answer) (v : Verdict) → scanOf (weighing m k a 0) t .code ≡ sparedNumber x
-    → scanOf (weighing m k a (pairCode b v)) t .code ≡ sparedNumber (orNext b v x)
-goes-on m k a t x Done Equal h = h
-goes-on m k a t x Done Newer h = h
-goes-on m k a t x Done Conflict h = h
-goes-on m k a t x Done Obsolete h = ap (λ (s : Scan). s .code) (settled (weighing m k a 1) t (λ z. omega arith))
-goes-on m k a t x (Refused r) v h = ap (λ (s : Scan). s .code) (settled (weighing m k a (codeOf r)) t (λ z. omega arith))
+-- the answer to a pair has few digits
+code-few : (r : Refusal) → tableCode (codeOf r) ≤ 2000
+unfolding tableCode
+code-few Malformed = lit≤ tt
+code-few Unlawful = lit≤ tt
+code-few NoSlot = lit≤ tt
+code-few OneSlot = lit≤ tt
+code-few Full = lit≤ tt
+code-few Long = lit≤ tt
+code-few Many = lit≤ tt
+code-few Overlap = lit≤ tt
+code-few Unseen = lit≤ tt
+code-few Short = lit≤ tt
+code-few Unread = lit≤ tt
+code-few Unfit = lit≤ tt
+code-few Ended = lit≤ tt
 
-pub weighed : (m : Record) (k a : ℕ) (t : Table) → isStored narrow m ≡ true → k + length t ≤ 32
-    → scanOf (weighing m k a 0) t .code ≡ sparedNumber (spareFrom narrow (held m) a k t)
-unfolding scanOf spareFrom
-weighed m k a [] e h = refl
-weighed m k a (r ∷ t) e h =
-    ap (λ (s : Scan). scanOf s t .code) (weigh-step m r k a (omega arith)) ∙ by (eqb a k || absent narrow r) (weighed m (k + 1) a t e (omega arith))
+spare-few : (c : Compared) → tableCode (spareCode c) ≤ 2000
+unfolding tableCode
+spare-few (Is Equal) = lit≤ tt
+spare-few (Is Obsolete) = lit≤ tt
+spare-few (Is Newer) = lit≤ tt
+spare-few (Is Conflict) = lit≤ tt
+spare-few (NotCompared r) = code-few r
+
+pub meet-few : (m r : Record) → meetCode m r ≤ 2000
+unfolding meetCode
+meet-few m r = spare-few (compared narrow m r)
+
+pub slot-few : (r : Record) → answerCode (first (slotTests r [])) 0 ≤ 2000
+unfolding first
+slot-few r = by (absent narrow r) (unlawful narrow r)
   where
-    by : (b : Bool) → scanOf (weighing m (k + 1) a 0) t .code ≡ sparedNumber (spareFrom narrow (held m) a (k + 1) t)
-        → scanOf (weighing m (k + 1) a (cond b 0 (meetCode m r))) t .code ≡ sparedNumber
-        (cond b (spareFrom narrow (held m) a (suc k) t) (orNext (meets m r) (compare (held m) (held r)) (spareFrom narrow (held m) a (suc k) t)))
-    by true ih = ih ∙ ap (λ (n : ℕ). sparedNumber (spareFrom narrow (held m) a n t)) (add-one k)
-    by false ih =
-        ap (λ (c : ℕ). scanOf (weighing m (k + 1) a c) t .code) (meet-answer m r e)
-        ∙ goes-on m (k + 1) a t (spareFrom narrow (held m) a (suc k) t) (meets m r) (compare (held m) (held r))
-        (ih ∙ ap (λ (n : ℕ). sparedNumber (spareFrom narrow (held m) a n t)) (add-one k))
+    by : (x y : Bool) → answerCode (cond x (Refused NoSlot) (cond y (Refused Unfit) Done)) 0 ≤ 2000
+    by true y = lit≤ tt
+    by false true = lit≤ tt
+    by false false = lit≤ tt
+
+module _ (s : Scan) (lawful : isStored narrow (s .mine) ≡ true) where
+  abbrev next : ℕ → Table → Spared
+  next k t = spareFrom narrow (held (s .mine)) (s .at) k t
+
+  abbrev answer : ℕ → Table → ℕ
+  answer k t = foundOr (passOf (weighOf s) k t) 0
+
+  found-answer : (n : ℕ) (t : Table) → answer (found + n) t ≡ n
+  found-answer n t = ap (λ (k : ℕ). foundOr k 0) (pass-found (weighOf s) (found + n) t (omega arith)) ∙ found-is n 0
+
+  -- with no answer yet the pass goes on
+  goes-on : (k : ℕ) (t : Table) (x : Spared) (b : Answer) (v : Verdict) → answer k t ≡ sparedNumber x
+      → answer (onwardTo k (pairCode b v)) t ≡ sparedNumber (orNext b v x)
+  unfolding onwardTo
+  goes-on k t x Done Equal h = h
+  goes-on k t x Done Newer h = h
+  goes-on k t x Done Conflict h = h
+  goes-on k t x Done Obsolete h = found-answer 1 t
+  goes-on k t x (Refused r) v h = simp (ne-eqb (codeOf r) 0 (λ z. omega arith)) (found-answer (codeOf r) t)
+
+  weighed : (k : ℕ) (t : Table) → k + length t ≤ 32 → answer k t ≡ sparedNumber (next k t)
+  unfolding passOf spareFrom
+  weighed k [] h = none-yet k 0 (omega arith)
+  weighed k (r ∷ t) h =
+      ap (λ (n : ℕ). foundOr n 0) (pass-more (weighOf s) k r t (omega arith) ∙ ap (λ (n : ℕ). passOf (weighOf s) n t) (weigh-is s k r (omega arith)))
+      ∙ by (eqb (s .at) k || absent narrow r) (weighed (k + 1) t (omega arith) ∙ ap (λ (n : ℕ). sparedNumber (next n t)) (add-one k))
+    where
+      by : (b : Bool) → answer (k + 1) t ≡ sparedNumber (next (suc k) t)
+          → answer (onwardTo (k + 1) (cond b 0 (meetCode (s .mine) r))) t
+          ≡ sparedNumber (cond b (next (suc k) t) (orNext (meets (s .mine) r) (compare (held (s .mine)) (held r)) (next (suc k) t)))
+      by true ih = goes-on (k + 1) t (next (suc k) t) Done Equal ih
+      by false ih =
+          ap (λ (n : ℕ). answer (onwardTo (k + 1) n) t) (meet-answer (s .mine) r lawful)
+          ∙ goes-on (k + 1) t (next (suc k) t) (meets (s .mine) r) (compare (held (s .mine)) (held r)) ih
+
+  pub weighed-all : (t : Table) → length t ≤ 32 → foundOr (scanOf (weighOf s) 0 t) 0 ≡ sparedNumber (next 0 t)
+  unfolding scanOf
+  weighed-all t h = ap (λ (u : Table). answer 0 (drop 0 u)) (within-few t h) ∙ weighed 0 t (omega arith)

@@ -1,18 +1,18 @@
 -- A gate that asks about numbers, and a rule that keeps the records on a refusal, do what the rules of the table say. Assumes nothing.
-use mathlib.Core.Path.{_≡_, refl, sym, ap, subst₂, _∙_}
+use mathlib.Core.Path.{_≡_, refl, sym, ap, subst, _∙_}
 use mathlib.Core.Bool.{Bool, true, false, cond, _||_}
 use mathlib.Core.List.{[], _∷_}
-use Prim.Native.Nat.{ℕ, _+_, _≤_, _<_}
+use Prim.Native.Nat.{ℕ, _≤_, _<_}
 use native.Mathlib.Omega.{arith}
-use borrow.Author.Tests.{eqb-true, eqb-false, leb-true, leb-false, ltb-false}
-use lib.Dec.{eqb, leb, ltb}
+use borrow.Author.Tests.{eq-eqb, eqb-true, eqb-false, leb-true, leb-false, ltb-false}
+use lib.Dec.{eqb, leb, ltb, lit≤}
 use lib.ListN.{length, set}
 use lib.Seq.{set-getD}
 use Rattle.laws.proofs.Below.{below-refl}
 use Rattle.laws.proofs.Tests.{clash}
 use Rattle.rules.specs.Limits.{narrow, records}
 use Rattle.rules.specs.Packed.{comparedNumber}
-use Rattle.rules.specs.Refusals.{first, long}
+use Rattle.rules.specs.Refusals.{first, long, many}
 use Rattle.rules.specs.Stamps.{Stamp, update, fork, join, compare}
 use Rattle.rules.specs.Stored.{stored, blank, absent, unlawful, held}
 use Rattle.rules.specs.Tables.{Table, outside, at, badSize, noSlot, lowest, full, stepped, slotNumber, sparedNumber}
@@ -20,15 +20,15 @@ use Rattle.rules.specs.Tables.{updateAt, forkAt, joinAt, compareAt, spareAt}
 use Rattle.rules.specs.declared.Record.{Record}
 use Rattle.rules.specs.declared.Answer.{Answer}
 use Rattle.rules.specs.declared.Answer.the-variants.{Done, Refused}
-use Rattle.rules.specs.declared.Refusal.the-variants.{Long}
+use Rattle.rules.specs.declared.Refusal.the-variants.{Long, Many}
 use Rattle.rules.specs.declared.Verdict.the-variants.{Equal}
 use Rattle.tables.specs.declared.Scan.{Scan}
-use Rattle.tables.specs.Gates.{gateCode, zeros}
-use Rattle.tables.specs.Rules.{oneOf, twoOf, slotTests, pairTests, meetTests, updateRule, forkRule, joinRule, compareRule}
+use Rattle.tables.specs.Gates.{gateCode}
+use Rattle.tables.specs.Rules.{answerCode, oneOf, twoOf, slotTests, pairTests, meetTests, updateRule, forkRule, joinRule, compareRule}
 use Rattle.tables.specs.Rules.{forkCode, forkList}
-use Rattle.tables.specs.Scans.{scanOf, seekStart, weighStart}
+use Rattle.tables.specs.Scans.{foundOr, onwardTo, scanOf, seekOf, weighOf, weighStart}
 use Rattle.tables.proofs.Forms.{lawful-then}
-use Rattle.tables.proofs.Passes.{Sought, sought, lowest-le, weighed, settled}
+use Rattle.tables.proofs.Passes.{sought-slot, lowest-le, lowest-absent, answered, weighed-all}
 
 -- ---- the gate
 
@@ -110,16 +110,25 @@ compare-self : (s : Stamp) → compare s s ≡ Equal
 unfolding compare
 compare-self s = rw (below-refl (s .update)) refl
 
--- a slot is equal to itself
-same-slot : (t : Table) (a b : ℕ) → cond (eqb a b) Equal (compare (held (at t a)) (held (at t b))) ≡ compare (held (at t a)) (held (at t b))
-same-slot t a b = by (eqb a b) refl
+-- a slot is equal to itself, where it has a lawful record
+same-slot : (t : Table) (a : ℕ) → badCount (length t) ≡ false → leb (length t) a ≡ false
+    → answerCode (first (slotTests (at t a) [])) 0 ≡ comparedNumber (compareAt narrow t a a)
+unfolding compareAt first badSize noSlot
+same-slot t a p q = by (absent narrow (at t a)) (unlawful narrow (at t a)) refl refl
   where
-    by : (e : Bool) → eqb a b ≡ e → cond e Equal (compare (held (at t a)) (held (at t b))) ≡ compare (held (at t a)) (held (at t b))
-    by true h = sym (compare-self (held (at t a))) ∙ ap (λ (n : ℕ). compare (held (at t a)) (held (at t n))) (eqb-true a b h)
-    by false h = refl
+    by : (x y : Bool) → absent narrow (at t a) ≡ x → unlawful narrow (at t a) ≡ y
+        → answerCode (first (slotTests (at t a) [])) 0 ≡ comparedNumber (compareAt narrow t a a)
+    by true y hx hy = simp (p, q, hx)
+    by false true hx hy = simp (p, q, hx, hy)
+    by false false hx hy = simp (p, q, hx, hy, eq-eqb a a refl, compare-self (held (at t a)))
 
 abbrev pub compareCode : Table → ℕ → ℕ → ℕ
 compareCode t a b = cond (eqb (gateCode (length t) a b) 0) (compareRule a b (at t a) (at t b)) (gateCode (length t) a b)
+
+compare-same : (t : Table) (a b : ℕ) → badCount (length t) ≡ false → leb (length t) a ≡ false → gateCode (length t) a b ≡ 0 → eqb a b ≡ true
+    → compareCode t a b ≡ comparedNumber (compareAt narrow t a b)
+unfolding compareRule
+compare-same t a b p q c e = simp (c, e) (same-slot t a p q ∙ ap (λ (n : ℕ). comparedNumber (compareAt narrow t a n)) (eqb-true a b e))
 
 pub compare-tied : (t : Table) (a b : ℕ) → compareCode t a b ≡ comparedNumber (compareAt narrow t a b)
 unfolding compareAt compareRule first badSize noSlot
@@ -131,11 +140,16 @@ compare-tied t a b = by (gates (length t) a b)
     one true z p q r c = simp (c, p, q, z)
     one false z p q r c = simp (c, p, q, r, z)
 
+    two : (z : Bool) → eqb a b ≡ z → badCount (length t) ≡ false → leb (length t) a ≡ false → leb (length t) b ≡ false → gateCode (length t) a b ≡ 0
+        → compareCode t a b ≡ comparedNumber (compareAt narrow t a b)
+    two true z p q r c = compare-same t a b p q c z
+    two false z p q r c = simp (c, p, q, r, z)
+
     by : Gate (length t) a b → compareCode t a b ≡ comparedNumber (compareAt narrow t a b)
     by (size p c) = simp (c, p)
     by (outA p q c) = simp (c, p, q)
     by (outB p q r c) = one (absent narrow (at t a)) refl p q r c
-    by (past p q r c) = simp (c, p, q, r, same-slot t a b)
+    by (past p q r c) = two (eqb a b) refl p q r c
 
 -- ---- join
 
@@ -161,85 +175,95 @@ join-tied t a b = by (gates (length t) a b)
     by (outA p q c) = (simp (c, p, q), simp (c, p, q))
     by (outB p q r c) = one (absent narrow (at t a)) refl p q r c
     by (past p q r c) =
-        let s = two-stepped (first (pairTests a b (at t a) (at t b) (meetTests (at t a) (at t b)))) t a a b
+        let s = two-stepped (first (pairTests a b (at t a) (at t b) (meetTests (at t a) (at t b) ((many narrow (join (held (at t a)) (held (at t b))), Many) ∷ [])))) t a a b
         (stored narrow (join (held (at t a)) (held (at t b)))) (blank narrow) in
         (simp (c, p, q, r) (s .0), simp (c, p, q, r) (s .1))
 
 -- ---- fork
 
-abbrev pub sought-in : Table → ℕ → Scan
-sought-in t a = scanOf (seekStart a) t
+-- the slot that a fork of slot a goes into: the lowest absent; a where none is
+abbrev pub forkSlot : Table → ℕ → ℕ
+forkSlot t a = foundOr (scanOf seekOf 0 t) a
 
-abbrev Forks : Table → ℕ → ℕ → ℕ → Type 0
-Forks t a b found = (forkCode t a b found ≡ slotNumber (forkAt narrow t a .answer)) × (forkList t a b found ≡ forkAt narrow t a .table)
+abbrev Forks : Table → ℕ → ℕ → Type 0
+Forks t a b = (forkCode t a b ≡ slotNumber (forkAt narrow t a .answer)) × (forkList t a b ≡ forkAt narrow t a .table)
 
--- none is absent: slot a stands for b, and every answer is a refusal
-fork-full : (t : Table) (a : ℕ) → full narrow t ≡ true → Forks t a a 0
+-- stored back as they were
+back : (t : Table) (a b : ℕ) → set (set t a (at t a)) b (at t b) ≡ t
+back t a b = rw (set-getD t a outside) (set-getD t b outside)
+
+-- none is absent: every answer is a refusal
+fork-full : (t : Table) (a : ℕ) → full narrow t ≡ true → Forks t a a
 unfolding forkAt forkRule first badSize noSlot
 fork-full t a f = by (gates (length t) a a) (absent narrow (at t a)) (unlawful narrow (at t a)) refl refl
   where
-    back : set (set t a (at t a)) a (at t a) ≡ t
-    back = rw (set-getD t a outside) (set-getD t a outside)
+    e : eqb a a ≡ true
+    e = eq-eqb a a refl
 
-    by : Gate (length t) a a → (x y : Bool) → absent narrow (at t a) ≡ x → unlawful narrow (at t a) ≡ y → Forks t a a 0
+    by : Gate (length t) a a → (x y : Bool) → absent narrow (at t a) ≡ x → unlawful narrow (at t a) ≡ y → Forks t a a
     by (size p c) x y hx hy = (simp (c, p), simp (c, p))
     by (outA p q c) x y hx hy = (simp (c, p, q), simp (c, p, q))
     by (outB p q r c) x y hx hy = absurd (clash r q)
-    by (past p q r c) true y hx hy = (simp (c, p, q, hx), simp (c, p, q, hx) back)
-    by (past p q r c) false true hx hy = (simp (c, p, q, hx, hy), simp (c, p, q, hx, hy) back)
-    by (past p q r c) false false hx hy = (simp (c, p, q, hx, hy, f), simp (c, p, q, hx, hy, f) back)
+    by (past p q r c) true y hx hy = (simp (c, p, q, hx), simp (c, p, q, hx) (back t a a))
+    by (past p q r c) false true hx hy = (simp (c, p, q, hx, hy), simp (c, p, q, hx, hy) (back t a a))
+    by (past p q r c) false false hx hy = (simp (c, p, q, hx, hy, f, e), simp (c, p, q, hx, hy, f, e) (back t a a))
 
 low-lt : (t : Table) → full narrow t ≡ false → lowest narrow t < length t
 unfolding full
 low-lt t f = omega (arith, lowest-le t, eqb-false (lowest narrow t) (length t) f)
 
-fork-lowest : (t : Table) (a : ℕ) → full narrow t ≡ false → Forks t a (lowest narrow t) 1
+-- one is absent: where it is slot a itself, there is nothing to fork
+fork-lowest : (t : Table) (a : ℕ) → full narrow t ≡ false → Forks t a (lowest narrow t)
 unfolding forkAt forkRule first badSize noSlot
-fork-lowest t a f = by (gates (length t) a (lowest narrow t))
+fork-lowest t a f = by (gates (length t) a (lowest narrow t)) (eqb a (lowest narrow t)) refl
   where
-    by : Gate (length t) a (lowest narrow t) → Forks t a (lowest narrow t) 1
-    by (size p c) = (simp (c, p), simp (c, p))
-    by (outA p q c) = (simp (c, p, q), simp (c, p, q))
-    by (outB p q r c) = absurd (omega (arith, leb-true (length t) (lowest narrow t) r, low-lt t f))
-    by (past p q r c) =
+    by : Gate (length t) a (lowest narrow t) → (z : Bool) → eqb a (lowest narrow t) ≡ z → Forks t a (lowest narrow t)
+    by (size p c) z hz = (simp (c, p), simp (c, p))
+    by (outA p q c) z hz = (simp (c, p, q), simp (c, p, q))
+    by (outB p q r c) z hz = absurd (omega (arith, leb-true (length t) (lowest narrow t) r, low-lt t f))
+    by (past p q r c) true hz =
+        let x : absent narrow (at t a) ≡ true = ap (λ (n : ℕ). absent narrow (at t n)) (eqb-true a (lowest narrow t) hz) ∙ lowest-absent t f in
+        (simp (c, p, q, x), simp (c, p, q, x) (back t a (lowest narrow t)))
+    by (past p q r c) false hz =
         let s = two-stepped (first (slotTests (at t a) ((long narrow (held (at t a)), Long) ∷ []))) t (lowest narrow t) a (lowest narrow t)
         (stored narrow (fork false (held (at t a)))) (stored narrow (fork true (held (at t a)))) in
-        (simp (c, p, q, f) (s .0), simp (c, p, q, f) (s .1))
+        (simp (c, p, q, f, hz) (s .0), simp (c, p, q, f, hz) (s .1))
 
-fork-size : (t : Table) (a b found : ℕ) → badCount (length t) ≡ true → Forks t a b found
+fork-size : (t : Table) (a b : ℕ) → badCount (length t) ≡ true → Forks t a b
 unfolding forkAt gateCode first badSize
-fork-size t a b found p = (simp p, simp p)
+fork-size t a b p = (simp p, simp p)
 
-pub fork-tied : (t : Table) (a : ℕ) → Forks t a (sought-in t a .at) (sought-in t a .code)
-unfolding seekStart
+pub fork-tied : (t : Table) (a : ℕ) → Forks t a (forkSlot t a)
 fork-tied t a = by (badCount (length t)) refl
   where
-    found : (f : Bool) → full narrow t ≡ f → Sought t 0 a (sought-in t a) → Forks t a (sought-in t a .at) (sought-in t a .code)
-    found true f w = subst₂ (λ (b k : ℕ). Forks t a b k) (sym (simp f at (w .slot))) (sym (simp f at (w .found))) (fork-full t a f)
-    found false f w =
-        let e : 0 + lowest narrow t ≡ lowest narrow t = omega arith in
-        subst₂ (λ (b k : ℕ). Forks t a b k) (sym (simp (f, e) at (w .slot))) (sym (simp f at (w .found))) (fork-lowest t a f)
+    which : (f : Bool) → full narrow t ≡ f → Forks t a (cond f a (lowest narrow t))
+    which true f = fork-full t a f
+    which false f = fork-lowest t a f
 
-    by : (p : Bool) → badCount (length t) ≡ p → Forks t a (sought-in t a .at) (sought-in t a .code)
-    by true p = fork-size t a (sought-in t a .at) (sought-in t a .code) p
-    by false p = found (full narrow t) refl (sought (zeros 0) 0 a t (omega (arith, few (length t) p)))
+    by : (p : Bool) → badCount (length t) ≡ p → Forks t a (forkSlot t a)
+    by true p = fork-size t a (forkSlot t a) p
+    by false p = subst (λ (b : ℕ). Forks t a b) (sym (sought-slot t a (few (length t) p))) (which (full narrow t) refl)
 
 -- ---- spare
 
+-- what the search for slot a answers
+abbrev pub searched : Table → ℕ → ℕ
+searched t a = let s : Scan = weighStart a (at t a) in foundOr (scanOf (weighOf s) (s .from) t) 0
+
+abbrev searchFrom : Table → ℕ → ℕ → Scan
+searchFrom t a k = record { from = k; at = a; mine = at t a }
+
 abbrev pub spareCode : Table → ℕ → ℕ
-spareCode t a = cond (eqb (gateCode (length t) a a) 0) (scanOf (weighStart a (at t a)) t .code) (gateCode (length t) a a)
+spareCode t a = cond (eqb (gateCode (length t) a a) 0) (searched t a) (gateCode (length t) a a)
 
 pub spare-tied : (t : Table) (a : ℕ) → spareCode t a ≡ sparedNumber (spareAt narrow t a)
-unfolding spareAt weighStart first badSize noSlot
+unfolding spareAt weighStart onwardTo first badSize noSlot
 spare-tied t a = by (gates (length t) a a) (absent narrow (at t a)) (unlawful narrow (at t a)) refl refl
   where
-    ends : (n : ℕ) → (n ≡ 0 → ⊥) → scanOf (record { kind = 1; mine = at t a; next = 0; at = a; code = n }) t .code ≡ n
-    ends n h = ap (λ (s : Scan). s .code) (settled (record { kind = 1; mine = at t a; next = 0; at = a; code = n }) t h)
-
     by : Gate (length t) a a → (x y : Bool) → absent narrow (at t a) ≡ x → unlawful narrow (at t a) ≡ y → spareCode t a ≡ sparedNumber (spareAt narrow t a)
     by (size p c) x y hx hy = simp (c, p)
     by (outA p q c) x y hx hy = simp (c, p, q)
     by (outB p q r c) x y hx hy = absurd (clash r q)
-    by (past p q r c) true y hx hy = simp (c, p, q, hx) (ends 1003 (λ z. omega arith))
-    by (past p q r c) false true hx hy = simp (c, p, q, hx, hy) (ends 1012 (λ z. omega arith))
-    by (past p q r c) false false hx hy = simp (c, p, q, hx, hy) (weighed (at t a) 0 a t (lawful-then (at t a) hy) (omega (arith, few (length t) p)))
+    by (past p q r c) true y hx hy = simp (c, p, q, hx) (answered (weighOf (searchFrom t a (onwardTo 0 1003))) 1003 t (lit≤ tt))
+    by (past p q r c) false true hx hy = simp (c, p, q, hx, hy) (answered (weighOf (searchFrom t a (onwardTo 0 1012))) 1012 t (lit≤ tt))
+    by (past p q r c) false false hx hy = simp (c, p, q, hx, hy) (weighed-all (searchFrom t a 0) (lawful-then (at t a) hy) t (few (length t) p))

@@ -13,11 +13,11 @@ use Rattle.rules.specs.declared.Record.{Record}
 unfoldable pub gateCode : ℕ → ℕ → ℕ → ℕ
 gateCode n a b = cond (eqb n 0 || ltb records n) 1012 (cond (leb n a || leb n b) 1003 0)
 
--- how many slots a fresh table fills: all, or none where the size is refused
+-- how many slots there are to go over: all, or none where the table is too large
 unfoldable pub roomOf : ℕ → ℕ
 roomOf n = cond (ltb records n) 0 n
 
--- and what it answers
+-- and what the making of a fresh table answers
 unfoldable pub roomCode : ℕ → ℕ
 roomCode m = cond (eqb m 0) 1012 0
 

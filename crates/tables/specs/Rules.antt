@@ -1,5 +1,5 @@
 -- What the rules by value answer and leave in the records that they are given: on a refusal, what they were.
-use mathlib.Core.Bool.{Bool, true, false, cond, not, _&&_}
+use mathlib.Core.Bool.{Bool, true, false, cond}
 use mathlib.Core.List.{List, [], _∷_}
 use Prim.Native.Nat.{ℕ, _+_}
 use lib.Dec.{eqb}
@@ -12,9 +12,8 @@ use Rattle.rules.specs.Values.{told}
 use Rattle.rules.specs.Packed.{comparedNumber}
 use Rattle.rules.specs.Tables.{Table, at}
 use Rattle.rules.specs.declared.Record.{Record}
-use Rattle.rules.specs.declared.Verdict.the-variants.{Equal}
 use Rattle.rules.specs.declared.Refusal.{Refusal}
-use Rattle.rules.specs.declared.Refusal.the-variants.{NoSlot, OneSlot, Full, Long, Many, Overlap, Unseen, Unfit}
+use Rattle.rules.specs.declared.Refusal.the-variants.{Unlawful, NoSlot, OneSlot, Full, Long, Many, Overlap, Unseen, Unfit}
 use Rattle.rules.specs.declared.Answer.{Answer}
 use Rattle.rules.specs.declared.Answer.the-variants.{Done, Refused}
 use Rattle.tables.specs.Gates.{gateCode}
@@ -23,6 +22,17 @@ use Rattle.tables.specs.declared.Two.{Two}
 
 abbrev pub codeOf : Refusal → ℕ
 codeOf r = 1000 + number r
+
+-- a record that a rule by value refuses as unlawful, 2, is 12 at the table: a refusal, an answer, a number
+abbrev pub refusedAt : Refusal → Refusal
+refusedAt r = cond (eqb (number r) (number Unlawful)) Unfit r
+
+abbrev pub atTable : Answer → Answer
+atTable Done = Done
+atTable (Refused r) = Refused (refusedAt r)
+
+unfoldable pub tableCode : ℕ → ℕ
+tableCode n = cond (eqb n (codeOf Unlawful)) (codeOf Unfit) n
 
 -- n where the call is accepted
 abbrev pub answerCode : Answer → ℕ → ℕ
@@ -46,47 +56,47 @@ slotTests s more = (absent narrow s, NoSlot) ∷ (unlawful narrow s, Unfit) ∷ 
 unfoldable pub updateRule : ℕ → Record → One
 updateRule a s = oneOf (first (slotTests s [])) a s (stored narrow (update (held s)))
 
--- s is slot a's record, u that of slot b, the lowest absent; where there is none, found is 0
+-- s and u are the records of slots a and b, of which b is the lowest absent, or a where none is
 unfoldable pub forkRule : ℕ → ℕ → Record → Record → Two
-forkRule b found s u =
-    twoOf (first (slotTests s ((eqb found 0, Full) ∷ (long narrow (held s), Long) ∷ []))) b s u
+forkRule a b s u =
+    twoOf (first (slotTests s ((eqb a b, Full) ∷ (long narrow (held s), Long) ∷ []))) b s u
     (stored narrow (fork false (held s)))
     (stored narrow (fork true (held s)))
 
+-- where none is absent: what a record that is there is refused for
+unfoldable pub fullCode : Record → ℕ
+fullCode s = cond (unlawful narrow s) (codeOf Unfit) (codeOf Full)
+
 -- what is asked of two slots' records before they are joined
 abbrev pub pairTests : ℕ → ℕ → Record → Record → List (Bool × Refusal) → List (Bool × Refusal)
-pairTests a b s u more =
-    (absent narrow s, NoSlot) ∷ (absent narrow u, NoSlot) ∷ (eqb a b, OneSlot) ∷ (unlawful narrow s, Unfit) ∷ (unlawful narrow u, Unfit) ∷ more
+pairTests a b s u more = (absent narrow s, NoSlot) ∷ (absent narrow u, NoSlot) ∷ (eqb a b, OneSlot) ∷ more
 
--- and what of the stamps that they hold
-abbrev pub meetTests : Record → Record → List (Bool × Refusal)
-meetTests s u =
-    (overlap (held s) (held u), Overlap) ∷ (unseen (held s) (held u), Unseen) ∷ (many narrow (join (held s) (held u)), Many) ∷ []
+-- and what of two records that meet
+abbrev pub meetTests : Record → Record → List (Bool × Refusal) → List (Bool × Refusal)
+meetTests s u more =
+    (unlawful narrow s, Unfit)
+    ∷ (unlawful narrow u, Unfit)
+    ∷ (overlap (held s) (held u), Overlap)
+    ∷ (unseen (held s) (held u), Unseen)
+    ∷ more
 
 unfoldable pub joinRule : ℕ → ℕ → Record → Record → Two
 joinRule a b s u =
-    twoOf (first (pairTests a b s u (meetTests s u))) a s u (stored narrow (join (held s) (held u))) (blank narrow)
+    twoOf (first (pairTests a b s u (meetTests s u ((many narrow (join (held s) (held u)), Many) ∷ [])))) a s u (stored narrow (join (held s) (held u)))
+    (blank narrow)
 
--- a slot is equal to itself
+-- a slot is equal to itself, where it has a lawful record
 unfoldable pub compareRule : ℕ → ℕ → Record → Record → ℕ
 compareRule a b s u =
-    comparedNumber
-    (told
-    (first
-    ((absent narrow s, NoSlot)
-    ∷ (absent narrow u, NoSlot)
-    ∷ (unlawful narrow s, Unfit)
-    ∷ (unlawful narrow u, Unfit)
-    ∷ (not (eqb a b) && overlap (held s) (held u), Overlap)
-    ∷ (not (eqb a b) && unseen (held s) (held u), Unseen)
-    ∷ []))
-    (cond (eqb a b) Equal (compare (held s) (held u))))
+    cond (eqb a b) (answerCode (first (slotTests s [])) 0)
+    (comparedNumber
+    (told (first ((absent narrow s, NoSlot) ∷ (absent narrow u, NoSlot) ∷ meetTests s u [])) (compare (held s) (held u))))
 
 -- ---- the rule of fork at two slots of a table, behind the gate
 
-abbrev pub forkCode : Table → ℕ → ℕ → ℕ → ℕ
-forkCode t a b found = cond (eqb (gateCode (length t) a b) 0) (forkRule b found (at t a) (at t b) .code) (gateCode (length t) a b)
+abbrev pub forkCode : Table → ℕ → ℕ → ℕ
+forkCode t a b = cond (eqb (gateCode (length t) a b) 0) (forkRule a b (at t a) (at t b) .code) (gateCode (length t) a b)
 
-abbrev pub forkList : Table → ℕ → ℕ → ℕ → Table
-forkList t a b found =
-    cond (eqb (gateCode (length t) a b) 0) (set (set t a (forkRule b found (at t a) (at t b) .first)) b (forkRule b found (at t a) (at t b) .second)) t
+abbrev pub forkList : Table → ℕ → ℕ → Table
+forkList t a b =
+    cond (eqb (gateCode (length t) a b) 0) (set (set t a (forkRule a b (at t a) (at t b) .first)) b (forkRule a b (at t a) (at t b) .second)) t

@@ -1,10 +1,11 @@
--- One pass over the table, for fork and for spare: where it stands, and what one slot does to that.
+-- Passes over the table, for fork and for spare. Where one stands is a number: the slot that comes next, or, past every slot, `found` and what was found.
 use mathlib.Core.Bool.{cond, _||_}
 use mathlib.Core.List.{[], _∷_}
-use Prim.Native.Nat.{ℕ, _+_}
+use Prim.Native.Nat.{ℕ, _+_, _-_}
 use lib.Dec.{eqb, ltb}
+use lib.ListN.{length, drop}
 use Rattle.rules.specs.Limits.{narrow, records}
-use Rattle.rules.specs.Stored.{unlawful, absent}
+use Rattle.rules.specs.Stored.{absent}
 use Rattle.rules.specs.Refusals.{first}
 use Rattle.rules.specs.Values.{compared}
 use Rattle.rules.specs.Tables.{Table}
@@ -13,14 +14,40 @@ use Rattle.rules.specs.declared.Verdict.{Verdict}
 use Rattle.rules.specs.declared.Verdict.the-variants.{Equal, Obsolete, Newer, Conflict}
 use Rattle.rules.specs.declared.Compared.{Compared}
 use Rattle.rules.specs.declared.Compared.the-variants.{Is, Refused as NotCompared}
-use Rattle.rules.specs.declared.Refusal.the-variants.{Unfit}
 use Rattle.tables.specs.declared.Scan.{Scan}
-use Rattle.tables.specs.Gates.{zeros}
-use Rattle.tables.specs.Rules.{codeOf, answerCode, slotTests}
+use Rattle.tables.specs.Rules.{codeOf, tableCode, answerCode, slotTests}
 
--- the slot after n, as far as a table goes
-unfoldable pub nextOf : ℕ → ℕ
-nextOf n = cond (ltb n records) (n + 1) n
+abbrev pub found : ℕ
+found = 1000
+
+-- what a pass that ended at k has found, or d
+unfoldable pub foundOr : ℕ → ℕ → ℕ
+foundOr k d = cond (ltb k found) d (k - found)
+
+-- slot k while there is no answer, 0
+unfoldable pub onwardTo : ℕ → ℕ → ℕ
+onwardTo k answer = cond (eqb answer 0) k (found + answer)
+
+-- ---- a pass by any look at a slot and its record
+
+-- over the records from slot k on, until something is found
+unfoldable pub passOf : (ℕ → Record → ℕ) → ℕ → Table → ℕ
+passOf look k [] = k
+passOf look k (r ∷ t) = cond (ltb k found) (passOf look (look k r) t) k
+
+-- the records that are gone over: none of a table that is too large
+unfoldable pub within : Table → Table
+within t = cond (ltb records (length t)) [] t
+
+unfoldable pub scanOf : (ℕ → Record → ℕ) → ℕ → Table → ℕ
+scanOf look k t = passOf look k (drop k (within t))
+
+-- ---- for fork: an absent slot
+
+unfoldable pub seekOf : ℕ → Record → ℕ
+seekOf k r = cond (ltb k records) (cond (absent narrow r) (found + k) (k + 1)) k
+
+-- ---- for spare: a copy that makes slot `at` obsolete
 
 -- 1 where the first may go, 0 where it is to be kept beside the second
 abbrev pub obsoleteNumber : Verdict → ℕ
@@ -34,41 +61,12 @@ spareCode (Is v) = obsoleteNumber v
 spareCode (NotCompared r) = codeOf r
 
 unfoldable pub meetCode : Record → Record → ℕ
-meetCode m r = cond (unlawful narrow r) (codeOf Unfit) (spareCode (compared narrow m r))
+meetCode m r = tableCode (spareCode (compared narrow m r))
 
--- looking for an absent slot: 1 when one is found
-unfoldable pub seekOf : Scan → Record → Scan
-seekOf s r =
-    record {
-      kind = s .kind;
-      mine = s .mine;
-      next = nextOf (s .next);
-      at = cond (absent narrow r) (s .next) (s .at);
-      code = cond (absent narrow r) 1 (s .code);
-    }
+-- slot `at` itself and absent ones are passed over
+unfoldable pub weighOf : Scan → ℕ → Record → ℕ
+weighOf s k r = cond (ltb k records) (onwardTo (k + 1) (cond (eqb (s .at) k || absent narrow r) 0 (meetCode (s .mine) r))) k
 
--- looking for a copy that makes slot `at` obsolete: that slot and absent ones are passed over
-unfoldable pub weighOf : Scan → Record → Scan
-weighOf s r =
-    record {
-      kind = s .kind;
-      mine = s .mine;
-      next = nextOf (s .next);
-      at = s .at;
-      code = cond (eqb (s .at) (s .next) || absent narrow r) 0 (meetCode (s .mine) r);
-    }
-
--- an answer that is found stays
-unfoldable pub lookOf : Scan → Record → Scan
-lookOf s r = cond (eqb (s .code) 0) (cond (eqb (s .kind) 0) (seekOf s r) (weighOf s r)) s
-
-unfoldable pub scanOf : Scan → Table → Scan
-scanOf s [] = s
-scanOf s (r ∷ t) = scanOf (lookOf s r) t
-
--- before the first slot: for fork, and for spare with slot a's record
-unfoldable pub seekStart : ℕ → Scan
-seekStart a = record { kind = 0; mine = zeros 0; next = 0; at = a; code = 0 }
-
+-- from the first slot on; answered where slot a's own record is refused
 unfoldable pub weighStart : ℕ → Record → Scan
-weighStart a r = record { kind = 1; mine = r; next = 0; at = a; code = answerCode (first (slotTests r [])) 0 }
+weighStart a r = record { from = onwardTo 0 (answerCode (first (slotTests r [])) 0); at = a; mine = r }

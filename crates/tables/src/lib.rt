@@ -3,15 +3,16 @@
 // Answers are numbers, as slotNumber, comparedNumber and sparedNumber of the rules say: a refusal is 1,000 plus its number.
 ghost use mathlib.Core.Path.{_≡_};
 ghost use mathlib.Core.List.{[]};
+ghost use Prim.Native.Nat.{_≤_};
 ghost use Rattle.rules.specs.Limits.{narrow};
 ghost use Rattle.rules.specs.Packed.{comparedNumber};
 ghost use Rattle.rules.specs.Refusals.{first};
 ghost use Rattle.rules.specs.Stored.{sameWords, wordsOf, absent};
 ghost use Rattle.rules.specs.Tables.{slotNumber, sparedNumber, makeFresh, updateAt, forkAt, joinAt, compareAt, spareAt};
 ghost use Rattle.tables.specs.Gates.{gateCode, roomOf, roomCode, freshSlot, zeros};
-ghost use Rattle.tables.specs.Rules.{codeOf, answerCode, twoOf, slotTests, pairTests};
+ghost use Rattle.tables.specs.Rules.{codeOf, tableCode, atTable, answerCode, oneOf, twoOf, fullCode, slotTests, pairTests};
 ghost use Rattle.tables.specs.Rules.{updateRule, forkRule, joinRule, compareRule, forkCode, forkList};
-ghost use Rattle.tables.specs.Scans.{nextOf, obsoleteNumber, spareCode, meetCode, seekOf, weighOf, lookOf, scanOf, seekStart, weighStart};
+ghost use Rattle.tables.specs.Scans.{scanOf, seekOf, weighOf, weighStart, onwardTo, foundOr, obsoleteNumber, spareCode, meetCode};
 use answers::compared_code;
 use answers::refusal_code;
 use rules::Answer;
@@ -23,6 +24,9 @@ use rules::Words;
 
 // A table has at most so many records.
 pub const RECORDS: usize = 32;
+
+// Where a pass over the table stands is one number: the slot that comes next, or, past every slot, this and what was found.
+const FOUND: usize = 1000;
 
 // What a rule answers and leaves in one record.
 pub struct One {
@@ -37,14 +41,11 @@ pub struct Two {
     pub second: Record,
 }
 
-// Where a pass over the table stands: what it looks for (0 an absent slot, 1 a copy that makes slot `at` obsolete),
-// slot `at`'s record, the slot that comes next, the slot of the call or the one found, and the answer, 0 while there is none.
+// A search for a copy that makes slot `at` obsolete, whose record is `mine`: where the pass over the table begins.
 pub struct Scan {
-    pub kind: u64,
-    pub mine: Record,
-    pub next: usize,
+    pub from: usize,
     pub at: usize,
-    pub code: u64,
+    pub mine: Record,
 }
 
 // A fresh table: [e|e] in slot 0 and nothing else. 0, or 1012.
@@ -77,8 +78,8 @@ pub fn update(t: &mut [Record], a: usize) -> u64
 pub fn fork(t: &mut [Record], a: usize) -> u64
     ensures { λ r. ⌜ (r ≡ slotNumber (forkAt narrow (now (t .entry)) a .answer)) × (now (t .exit) ≡ forkAt narrow (now (t .entry)) a .table) ⌝ }
 {
-    let s = scan_all(t, seek_start(a));
-    fork_at(t, a, s.at, s.code)
+    let b = lowest_absent(t, a);
+    fork_at(t, a, b)
 }
 
 // The copies of a and b become one, in slot a.
@@ -112,8 +113,7 @@ pub fn spare(t: &[Record], a: usize) -> u64
 {
     let g = gate(t.len(), a, a);
     if g == 0 {
-        let s = scan_all(t, weigh_start(a, t[a]));
-        return s.code;
+        return weigh_all(t, weigh_start(a, t[a]));
     }
     g
 }
@@ -137,7 +137,7 @@ fn gate(n: usize, a: usize, b: usize) -> u64
     0
 }
 
-// How many slots of n a fresh table fills: all, or none where the size is refused.
+// How many slots of n there are to go over: all, or none where the table is too large.
 fn room(n: usize) -> usize
     ensures { λ r. ⌜ r ≡ roomOf n ⌝ }
 {
@@ -177,27 +177,19 @@ fn update_rule(a: usize, s: Record) -> One
             first: s,
         };
     }
-    if stamps::is_lawful(s) {
-        let g = stamps::update(s);
-        let x = g.stamp;
-        return One {
-            code: a as u64,
-            first: x,
-        };
-    }
-    One {
-        code: 1012,
-        first: s,
-    }
+    let g = stamps::update(s);
+    let answer = g.answer;
+    let x = g.stamp;
+    settle_one(answer, a, s, x)
 }
 
-// A copy of slot a in slot b: found is 0 where b is not absent.
-fn fork_at(t: &mut [Record], a: usize, b: usize, found: u64) -> u64
-    ensures { λ r. ⌜ (r ≡ forkCode (now (t .entry)) a b found) × (now (t .exit) ≡ forkList (now (t .entry)) a b found) ⌝ }
+// A copy of slot a in slot b, the lowest that is absent; b is a where none is.
+fn fork_at(t: &mut [Record], a: usize, b: usize) -> u64
+    ensures { λ r. ⌜ (r ≡ forkCode (now (t .entry)) a b) × (now (t .exit) ≡ forkList (now (t .entry)) a b) ⌝ }
 {
     let g = gate(t.len(), a, b);
     if g == 0 {
-        let f = fork_rule(b, found, t[a], t[b]);
+        let f = fork_rule(a, b, t[a], t[b]);
         t[a] = f.first;
         t[b] = f.second;
         return f.code;
@@ -205,9 +197,9 @@ fn fork_at(t: &mut [Record], a: usize, b: usize, found: u64) -> u64
     g
 }
 
-// The rule of fork: s is slot a's record, u that of slot b, the lowest absent; found is 0 where none is.
-fn fork_rule(b: usize, found: u64, s: Record, u: Record) -> Two
-    ensures { λ d. ⌜ d ≡ forkRule b found s u ⌝ }
+// The rule of fork: s and u are the records of slots a and b, of which b is the lowest absent, or a where none is.
+fn fork_rule(a: usize, b: usize, s: Record, u: Record) -> Two
+    ensures { λ d. ⌜ d ≡ forkRule a b s u ⌝ }
 {
     if is_absent(s) {
         return Two {
@@ -216,16 +208,10 @@ fn fork_rule(b: usize, found: u64, s: Record, u: Record) -> Two
             second: u,
         };
     }
-    if !stamps::is_lawful(s) {
+    if a == b {
+        let code = full_code(s);
         return Two {
-            code: 1012,
-            first: s,
-            second: u,
-        };
-    }
-    if found == 0 {
-        return Two {
-            code: 1005,
+            code: code,
             first: s,
             second: u,
         };
@@ -235,6 +221,16 @@ fn fork_rule(b: usize, found: u64, s: Record, u: Record) -> Two
     let x = f.zero;
     let y = f.one;
     settle_two(answer, b, s, u, x, y)
+}
+
+// What a fork of the record is refused for where no slot is absent.
+fn full_code(s: Record) -> u64
+    ensures { λ n. ⌜ n ≡ fullCode s ⌝ }
+{
+    if stamps::is_lawful(s) {
+        return 1005;
+    }
+    1012
 }
 
 // The rule of join: s and u are the records of slots a and b, of which b's becomes absent.
@@ -269,12 +265,6 @@ fn pair_code(a: usize, b: usize, s: Record, u: Record) -> u64
     if a == b {
         return 1004;
     }
-    if !stamps::is_lawful(s) {
-        return 1012;
-    }
-    if !stamps::is_lawful(u) {
-        return 1012;
-    }
     0
 }
 
@@ -282,63 +272,110 @@ fn pair_code(a: usize, b: usize, s: Record, u: Record) -> u64
 fn compare_rule(a: usize, b: usize, s: Record, u: Record) -> u64
     ensures { λ n. ⌜ n ≡ compareRule a b s u ⌝ }
 {
+    if a == b {
+        return slot_code(s);
+    }
     if is_absent(s) {
         return 1003;
     }
     if is_absent(u) {
         return 1003;
     }
-    if !stamps::is_lawful(s) {
-        return 1012;
-    }
-    if !stamps::is_lawful(u) {
-        return 1012;
-    }
-    if a == b {
-        return 0;
-    }
-    compared_code(stamps::compare(s, u))
+    table_code(compared_code(stamps::compare(s, u)))
 }
 
-// One pass over the table.
-fn scan_all(t: &[Record], start: Scan) -> Scan
-    ensures { λ r. ⌜ r ≡ scanOf start (now (t .entry)) ⌝ }
+// The lowest absent slot; a where none is.
+fn lowest_absent(t: &[Record], a: usize) -> usize
+    ensures { λ r. ⌜ r ≡ foundOr (scanOf seekOf 0 (now (t .entry))) a ⌝ }
 {
-    let mut acc = start;
-    let mut i = 0;
-    while i < t.len() {
-        acc = look(acc, t[i]);
-        i += 1;
+    let n = room(t.len());
+    let mut k = 0;
+    while k < n {
+        k = seek(k, t[k]);
     }
-    acc
+    found_or(k, a)
 }
 
-// Before the first slot, in search of an absent one; a is the slot of the call.
-fn seek_start(a: usize) -> Scan
-    ensures { λ s. ⌜ s ≡ seekStart a ⌝ }
+// Whether slot k is absent: the next slot, or FOUND and k.
+fn seek(k: usize, r: Record) -> usize
+    ensures { λ n. ⌜ n ≡ seekOf k r ⌝ }
 {
-    let none = empties(0);
-    Scan {
-        kind: 0,
-        mine: none,
-        next: 0,
-        at: a,
-        code: 0,
+    if RECORDS <= k {
+        return k;
     }
+    if is_absent(r) {
+        return FOUND + k;
+    }
+    k + 1
 }
 
-// Before the first slot, in search of a copy that makes slot a obsolete, whose record is r.
+// What the search answers: 0 kept, 1 spare, or the refusal.
+fn weigh_all(t: &[Record], s: Scan) -> u64
+    ensures { λ r. ⌜ r ≡ foundOr (scanOf (weighOf s) (s .from) (now (t .entry))) 0 ⌝ }
+{
+    let n = room(t.len());
+    let mut k = s.from;
+    while k < n {
+        k = weigh(s, k, t[k]);
+    }
+    found_code(k)
+}
+
+// The search that begins at the first slot, or is answered where slot a's record r is refused.
 fn weigh_start(a: usize, r: Record) -> Scan
     ensures { λ s. ⌜ s ≡ weighStart a r ⌝ }
 {
-    let code = slot_code(r);
+    let from = onward(0, slot_code(r));
     Scan {
-        kind: 1,
-        mine: r,
-        next: 0,
+        from: from,
         at: a,
-        code: code,
+        mine: r,
     }
+}
+
+// Slot k's record beside that of the search: the next slot, or FOUND and the answer. The slot itself and absent ones are passed over.
+fn weigh(s: Scan, k: usize, r: Record) -> usize
+    ensures { λ n. ⌜ n ≡ weighOf s k r ⌝ }
+{
+    let at = s.at;
+    if RECORDS <= k {
+        return k;
+    }
+    if at == k {
+        return k + 1;
+    }
+    if is_absent(r) {
+        return k + 1;
+    }
+    onward(k + 1, meet_code(s.mine, r))
+}
+
+// Where a pass goes on: at slot k while there is no answer, 0.
+fn onward(k: usize, answer: u64) -> usize
+    requires { ⌜ answer ≤ 2000 ⌝ }
+    ensures { λ n. ⌜ n ≡ onwardTo k answer ⌝ }
+{
+    if answer == 0 {
+        return k;
+    }
+    FOUND + answer as usize
+}
+
+// What a pass that ended at k has found, or d.
+fn found_or(k: usize, d: usize) -> usize
+    ensures { λ n. ⌜ n ≡ foundOr k d ⌝ }
+{
+    if k < FOUND {
+        return d;
+    }
+    k - FOUND
+}
+
+// The answer that a pass that ended at k has found, or 0.
+fn found_code(k: usize) -> u64
+    ensures { λ n. ⌜ n ≡ foundOr k 0 ⌝ }
+{
+    found_or(k, 0) as u64
 }
 
 // What is asked of a slot's record first: 0, or the refusal.
@@ -354,109 +391,32 @@ fn slot_code(r: Record) -> u64
     1012
 }
 
-// What one slot does to where the pass stands: an answer that is found stays.
-fn look(s: Scan, r: Record) -> Scan
-    ensures { λ x. ⌜ x ≡ lookOf s r ⌝ }
-{
-    let found = s.code;
-    let kind = s.kind;
-    if found != 0 {
-        return s;
-    }
-    if kind == 0 {
-        return seek(s, r);
-    }
-    weigh(s, r)
-}
-
-// A slot that is looked at for an absent one.
-fn seek(s: Scan, r: Record) -> Scan
-    ensures { λ x. ⌜ x ≡ seekOf s r ⌝ }
-{
-    let kind = s.kind;
-    let mine = s.mine;
-    let here = s.next;
-    let at = s.at;
-    let code = s.code;
-    let next = after(here);
-    if is_absent(r) {
-        return Scan {
-            kind: kind,
-            mine: mine,
-            next: next,
-            at: here,
-            code: 1,
-        };
-    }
-    Scan {
-        kind: kind,
-        mine: mine,
-        next: next,
-        at: at,
-        code: code,
-    }
-}
-
-// A slot that is looked at for a copy that makes slot `at` obsolete.
-fn weigh(s: Scan, r: Record) -> Scan
-    ensures { λ x. ⌜ x ≡ weighOf s r ⌝ }
-{
-    let kind = s.kind;
-    let mine = s.mine;
-    let here = s.next;
-    let at = s.at;
-    let next = after(here);
-    if at == here {
-        return Scan {
-            kind: kind,
-            mine: mine,
-            next: next,
-            at: at,
-            code: 0,
-        };
-    }
-    if is_absent(r) {
-        return Scan {
-            kind: kind,
-            mine: mine,
-            next: next,
-            at: at,
-            code: 0,
-        };
-    }
-    let code = meet_code(mine, r);
-    Scan {
-        kind: kind,
-        mine: mine,
-        next: next,
-        at: at,
-        code: code,
-    }
-}
-
 // What m is told beside r: 1 where it may go, 0 where it is kept, or the refusal.
 fn meet_code(m: Record, r: Record) -> u64
     ensures { λ n. ⌜ n ≡ meetCode m r ⌝ }
 {
-    if stamps::is_lawful(r) {
-        return spare_code(stamps::compare(m, r));
-    }
-    1012
+    table_code(spare_code(stamps::compare(m, r)))
 }
 
-// The slot after n, as far as a table goes.
-fn after(n: usize) -> usize
-    ensures { λ r. ⌜ r ≡ nextOf n ⌝ }
+// The record s becomes x, or stays on a refusal.
+fn settle_one(answer: Answer, n: usize, s: Record, x: Record) -> One
+    ensures { λ d. ⌜ d ≡ oneOf (atTable answer) n s x ⌝ }
 {
-    if n < RECORDS {
-        return n + 1;
+    match answer {
+        Answer::Done => One {
+            code: n as u64,
+            first: x,
+        },
+        Answer::Refused(r) => One {
+            code: table_code(refusal_code(r)),
+            first: s,
+        },
     }
-    n
 }
 
 // The records p and q become x and y, or stay on a refusal.
 fn settle_two(answer: Answer, n: usize, p: Record, q: Record, x: Record, y: Record) -> Two
-    ensures { λ d. ⌜ d ≡ twoOf answer n p q x y ⌝ }
+    ensures { λ d. ⌜ d ≡ twoOf (atTable answer) n p q x y ⌝ }
 {
     match answer {
         Answer::Done => Two {
@@ -465,11 +425,21 @@ fn settle_two(answer: Answer, n: usize, p: Record, q: Record, x: Record, y: Reco
             second: y,
         },
         Answer::Refused(r) => Two {
-            code: refusal_code(r),
+            code: table_code(refusal_code(r)),
             first: p,
             second: q,
         },
     }
+}
+
+// A number at the table: what a rule by value refuses as unlawful, 2, is 12 here.
+fn table_code(n: u64) -> u64
+    ensures { λ r. ⌜ r ≡ tableCode n ⌝ }
+{
+    if n == 1002 {
+        return 1012;
+    }
+    n
 }
 
 // 1 where the comparison lets the first go, 0 where it keeps it.

@@ -17,7 +17,7 @@ use ghost.Atoms.{Atoms, sem}
 use contract.Monad.{Fun, fact}
 use contract.Running.{givenOf, tables, tablesOf}
 use sound.WpLaws.{FmC, fmOf, WpFn-mono}
-use types.Kit.{Given, use0, use3, feqL, ‵, raw, _⊛_, ⋆, some, later, use1, use2, pick, await, _$_, _∵_, !, qed, by, move, keep, drop, split, join, rewrite}
+use types.Kit.{Given, use3, feqL, ‵, raw, _⊛_, ⋆, some, later, use1, use2, pick, await, _$_, _∵_, !, qed, by, move, keep, drop, split, join, rewrite}
 use types.Kit.{fsplit, fjoin, suffices, frame, done, feqI}
 use types.Part.{whole, sub, look-in, agg}
 use types.Tokens.{lft-new, lft-end, lent-back}
@@ -36,7 +36,6 @@ use denote.Slice.{sliceVal, MutSlice, ShrSlice, heres, Room, slice-vals, mut-sli
 use denote.Lend.{Held, lends-slice, slice-back, lends-shr-slice}
 use denote.Index.{row, whole-in, whole-out, opens-slice, closes-slice}
 use denote.Signature.{plain}
-use denote.Struct.Laws as LL
 use denote.Builtin.{usize, u64}
 use denote.Triple.Entry.{onEntry}
 use denote.Steps.{only, nothing, owned, peeks, heard}
@@ -50,20 +49,12 @@ use Rattle.rules.specs.Limits.{narrow}
 use Rattle.rules.specs.Tables.{slotNumber, forkAt}
 use Rattle.rules.specs.declared.Record.{Record}
 use Rattle.rules.proofs.Record as T
-use Rattle.tables.specs.declared.Scan.{Scan}
 use Rattle.tables.specs.Rules.{forkCode, forkList}
-use Rattle.tables.specs.Scans.{scanOf, seekStart}
-use Rattle.tables.proofs.Tied.{fork-tied}
-use Rattle.tables.proofs.Scan as S
-use Rattle.tables.proofs.Scan.Laws as S′
-use Rattle.tables.proofs.seek_start as start′
-use Rattle.tables.proofs.seek_start.Symbol as start-def
-use Rattle.tables.proofs.seek_start.Symbol.{name as #tables·seek-start}
-use Rattle.tables.proofs.seek_start.Met as start-thm
-use Rattle.tables.proofs.scan_all as pass′
-use Rattle.tables.proofs.scan_all.Symbol as pass-def
-use Rattle.tables.proofs.scan_all.Symbol.{name as #tables·scan-all}
-use Rattle.tables.proofs.scan_all.Met as pass-thm
+use Rattle.tables.proofs.Tied.{forkSlot, fork-tied}
+use Rattle.tables.proofs.lowest_absent as pass′
+use Rattle.tables.proofs.lowest_absent.Symbol as pass-def
+use Rattle.tables.proofs.lowest_absent.Symbol.{name as #tables·lowest-absent}
+use Rattle.tables.proofs.lowest_absent.Met as pass-thm
 use Rattle.tables.proofs.fork_at as half′
 use Rattle.tables.proofs.fork_at.Symbol as half-def
 use Rattle.tables.proofs.fork_at.Symbol.{name as #tables·fork-at}
@@ -76,14 +67,8 @@ use Rattle.tables.proofs.fork.Code as code
 abbrev stayed : Stays (f.ended .signature .params) (f.ended .kept)
 stayed = (stay-slice (0 ∷ []) tt (plain (λ _. T.the-row)), (stay-none (λ _. usize) yes, tt))
 
-abbrev sv : Scan → Val
-sv = LL.val S.the-type S′.the-laws
-
 module _ {M : Type 1} (𝓤 : URA M) (H : Heap 𝓤) (A : Atoms 𝓤) (at-mem : Memory → SProp 𝓤) (run : Routine → Fun 𝓤) where
   -- the contracts that the proof cites
-  abbrev Start : Contract 𝓤
-  Start = tripleOf 𝓤 H A start′.signature (start′.spec 𝓤 H A at-mem run)
-
   abbrev Pass : Contract 𝓤
   Pass = tripleOf 𝓤 H A pass′.signature (pass′.spec 𝓤 H A at-mem run)
 
@@ -91,12 +76,9 @@ module _ {M : Type 1} (𝓤 : URA M) (H : Heap 𝓤) (A : Atoms 𝓤) (at-mem : 
   Half = tripleOf 𝓤 H A half′.signature (half′.spec 𝓤 H A at-mem run)
 
   -- of an `ensured`, the clause alone
-  start-of : (i : ℕ) (r : Scan) → ent 𝓤 (ensured 𝓤 H A start′.ended (start′.clauses 𝓤 H A at-mem run) tt (i, tt) tt r) (fact 𝓤 (r ≡ seekStart i))
-  start-of i r = exE 𝓤 _ (λ ws. snd∗ 𝓤 (sem 𝓤 H A (lasts start′.ended tt (i, tt) ws)) (fact 𝓤 (r ≡ seekStart i)))
-
-  pass-of : (κ : Lft) (y : RefT (List Record)) (s r : Scan) → ent 𝓤 (ensured 𝓤 H A pass′.ended (pass′.clauses 𝓤 H A at-mem run) (κ, tt) (y, (s, tt)) tt r)
-      (fact 𝓤 (r ≡ scanOf s (y .now)))
-  pass-of κ y s r = exE 𝓤 _ (λ ws. snd∗ 𝓤 (sem 𝓤 H A (lasts pass′.ended (κ, tt) (y, (s, tt)) ws)) (fact 𝓤 (r ≡ scanOf s (y .now))))
+  pass-of : (κ : Lft) (y : RefT (List Record)) (i r : ℕ) → ent 𝓤 (ensured 𝓤 H A pass′.ended (pass′.clauses 𝓤 H A at-mem run) (κ, tt) (y, (i, tt)) tt r)
+      (fact 𝓤 (r ≡ forkSlot (y .now) i))
+  pass-of κ y i r = exE 𝓤 _ (λ ws. snd∗ 𝓤 (sem 𝓤 H A (lasts pass′.ended (κ, tt) (y, (i, tt)) ws)) (fact 𝓤 (r ≡ forkSlot (y .now) i)))
 
 module _ {M : Type 1} (𝓤 : URA M) (H : Heap 𝓤) (A : Atoms 𝓤) (W : Given 𝓤 H A) (at-mem : Memory → SProp 𝓤) (run : Routine → Fun 𝓤) (κ : Lft) (q : Share)
     (b o : ℕ) (γ : GName) (ys : List Record) (i : ℕ) where
@@ -109,11 +91,9 @@ module _ {M : Type 1} (𝓤 : URA M) (H : Heap 𝓤) (A : Atoms 𝓤) (W : Given
   abbrev x : Arg
   x = (ref γ, (i, tt))
 
-  abbrev st : Scan
-  st = seekStart i
-
-  abbrev d : Scan
-  d = scanOf st ys
+  -- where the pass finds room
+  abbrev j : ℕ
+  j = forkSlot ys i
 
   abbrev at : List Val × (List Val × Unit {0})
   at = (sliceVal (b, o) (length ys) ∷ [], (vint w64 i ∷ [], tt))
@@ -139,79 +119,47 @@ module _ {M : Type 1} (𝓤 : URA M) (H : Heap 𝓤) (A : Atoms 𝓤) (W : Given
       (ap (λ (m : ℕ). sliceVal (b, o) m ∷ []) (sym same), subst (Room T.the-row) (sym same) gn) $ fjoin ! $ fjoin ! $ frame ! $
       owned ! u64 (Is u64) (uint-makes 𝓤 H A W w64) r _ (refl, gr) $ done !
 
-  abbrev toStart : Start 𝓤 H A at-mem run .Ghost
-  toStart = ((tt, tt, tt, (i, tt), (vint w64 i ∷ [], tt)), tt)
-
   abbrev toPass : Lft → GName → Pass 𝓤 H A at-mem run .Ghost
-  toPass α g = (((α, tt), (fullShare, tt), tt, (ref g, (st, tt)), (sliceVal (b, o) (length ys) ∷ [], (sv st ∷ [], tt))), tt)
+  toPass α g = (((α, tt), (fullShare, tt), tt, (ref g, (i, tt)), at), tt)
 
   abbrev toHalf : Lft → GName → Half 𝓤 H A at-mem run .Ghost
-  toHalf α g = (
-    (
-      (α, tt),
-      (fullShare, tt),
-      tt,
-      (ref g, (i, (d .at, (d .code, tt)))),
-      (
-        sliceVal (b, o) (length ys)
-            ∷ [],
-        (vint w64 i ∷ [], (vint w64 (d .at) ∷ [], (vint w64 (d .code) ∷ [], tt))),
-      ),
-    ),
-    tt,
-  )
+  toHalf α g = (((α, tt), (fullShare, tt), tt, (ref g, (i, (j, tt))), (sliceVal (b, o) (length ys) ∷ [], (vint w64 i ∷ [], (vint w64 j ∷ [], tt)))), tt)
 
-  goes-start : i < 2 ^ 64 → ent 𝓤 (emp 𝓤) (Start 𝓤 H A at-mem run .pre toStart)
-  goes-start hi = qed W [] ∵ nothing ! $ owned ! usize (Is usize) (uint-makes 𝓤 H A W w64) i _ (refl, hi) $ fjoin ! $ nothing ! $ join ! $ frame ! $ done !
-
-  goes-pass : Is S.the-row st (sv st ∷ []) → (α : Lft) (g : GName)
+  goes-pass : i < 2 ^ 64 → (α : Lft) (g : GName)
       → ent 𝓤 (sep 𝓤 (A .lft α fullShare) (sem 𝓤 H A (ShrSlice (named 0) α T.the-row .own (ref g) (sliceVal (b, o) (length ys) ∷ []))))
       (Pass 𝓤 H A at-mem run .pre (toPass α g))
-  goes-pass iss α g =
+  goes-pass gi α g =
       qed W (‵ (flft α fullShare) ∷ ‵ (ShrSlice (named 0) α T.the-row .own (ref g) (sliceVal (b, o) (length ys) ∷ [])) ∷ []) ∵
-      nothing ! $ owned ! S.the-row (Is S.the-row) (LL.makes S.the-type S′.the-plain 𝓤 H A) st _ iss $ fjoin ! $ move ! (2 ∷ 0 ∷ []) $ fjoin ! $
+      nothing ! $ owned ! usize (Is usize) (uint-makes 𝓤 H A W w64) i _ (refl, gi) $ fjoin ! $ move ! (2 ∷ 0 ∷ []) $ fjoin ! $
       nothing ! $ move ! (2 ∷ 0 ∷ []) $ join ! $ join ! $ frame ! $ done !
 
-  goes-half : i < 2 ^ 64 → d .at < 2 ^ 64 → d .code < 2 ^ 64 → (α : Lft) (g : GName)
+  goes-half : i < 2 ^ 64 → j < 2 ^ 64 → (α : Lft) (g : GName)
       → ent 𝓤 (sep 𝓤 (A .lft α fullShare) (sem 𝓤 H A (MutSlice (named 0) α T.the-row .own (ref g) (sliceVal (b, o) (length ys) ∷ []))))
       (Half 𝓤 H A at-mem run .pre (toHalf α g))
-  goes-half gi gk gc α g =
+  goes-half gi gj α g =
       qed W (‵ (flft α fullShare) ∷ ‵ (MutSlice (named 0) α T.the-row .own (ref g) (sliceVal (b, o) (length ys) ∷ [])) ∷ []) ∵
-      nothing ! $ owned ! u64 (Is u64) (uint-makes 𝓤 H A W w64) (d .code) _ (refl, gc) $ fjoin ! $
-      owned ! usize (Is usize) (uint-makes 𝓤 H A W w64) (d .at) _ (refl, gk) $ fjoin ! $
+      nothing ! $ owned ! usize (Is usize) (uint-makes 𝓤 H A W w64) j _ (refl, gj) $ fjoin ! $
       owned ! usize (Is usize) (uint-makes 𝓤 H A W w64) i _ (refl, gi) $ fjoin ! $ move ! (2 ∷ 0 ∷ []) $ fjoin ! $
       nothing ! $ move ! (2 ∷ 0 ∷ []) $ join ! $ join ! $ frame ! $ done !
 
-  module _ (C : Calls 𝓤 H) (Λ : Loops 𝓤 H) (fm : FmC 𝓤 H (W .laws) C) (known-start : Triple 𝓤 (C #tables·seek-start) (Start 𝓤 H A at-mem run))
-      (known-pass : Triple 𝓤 (C #tables·scan-all) (Pass 𝓤 H A at-mem run)) (known-half : Triple 𝓤 (C #tables·fork-at) (Half 𝓤 H A at-mem run)) where
+  module _ (C : Calls 𝓤 H) (Λ : Loops 𝓤 H) (fm : FmC 𝓤 H (W .laws) C)
+      (known-pass : Triple 𝓤 (C #tables·lowest-absent) (Pass 𝓤 H A at-mem run)) (known-half : Triple 𝓤 (C #tables·fork-at) (Half 𝓤 H A at-mem run)) where
     walk : Room T.the-row (length ys) → i < 2 ^ 64
         → ent 𝓤 (onEntry 𝓤 H A f.signature (κ, tt) (q, tt) x at) (WpFn 𝓤 H C Λ code.function (sliceVal (b, o) (length ys) ∷ vint w64 i ∷ []) Post)
     walk gn gi =
         qed W ((‵ (flft κ q) ⊛ ‵ ftrue) ∷ ‵ (owns (MutSlice (named 0) κ T.the-row ∷ usize ∷ []) x at) ∷ []) ∵ enter ! C Λ code.function
         (sliceVal (b, o) (length ys) ∷ vint w64 i ∷ []) _ $
         alloc1 ! (λ l₀. alloc1 ! (λ l₁. alloc1 ! (λ l₂. alloc1 ! (λ l₃. alloc1 ! (λ l₄. alloc1 ! (λ l₅.
-        alloc1 ! (λ l₆. alloc1 ! (λ l₇. alloc1 ! (λ l₈. alloc0 ! $ params1 ! $
-        pass1 ! (init ! 14 refl (tt, (tt, (record { fits = gn .0 }, tt)))) $ pass1 ! (init ! 12 refl (tt, record { fits = gi })) $ pass0 ! $
+        alloc1 ! (λ l₆. alloc1 ! (λ l₇. alloc0 ! $ params1 ! $
+        pass1 ! (init ! 12 refl (tt, (tt, (record { fits = gn .0 }, tt)))) $ pass1 ! (init ! 10 refl (tt, record { fits = gi })) $ pass0 ! $
         -- the run is opened once, for the whole body
-        move ! (19 ∷ []) $ fsplit ! $ fsplit ! $ move ! (1 ∷ []) $ fsplit ! $ move ! (22 ∷ []) $ split ! $ move ! (2 ∷ 3 ∷ 0 ∷ []) $
+        move ! (17 ∷ []) $ fsplit ! $ fsplit ! $ move ! (1 ∷ []) $ fsplit ! $ move ! (20 ∷ []) $ split ! $ move ! (2 ∷ 3 ∷ 0 ∷ []) $
         opens-slice ! tt T.the-row ys b o $
-        -- [the row; the open borrow; obs; auth; true; t's fact; a's; _8; …: local i at 7 + 2 (8 - i)]
-        assigns ! (addr ! (from ! (fld ! refl (hop ! (look-in ! 21 (sub ! 0 refl (whole !))) (stop !))))) (from ! (stop !)) (init ! 15 refl (tt, tt)) $
-        assigns ! (agg ! (and-then ! (load ! (from ! (stop !)) (look ! 15 refl))
-        (and-then ! (load ! (from ! (fld ! refl (stop !))) (look-in ! 21 (sub ! 1 refl (whole !)))) (no-more !)))) (from ! (stop !))
-        (init ! 13 refl (tt, (tt, (record { fits = gn .0 }, tt)))) $
-        -- `seek_start`
-        use0 W (raw (Start 𝓤 H A at-mem run .pre toStart)) (goes-start gi) $
-        calls-at ! fm (Start 𝓤 H A at-mem run) known-start toStart (and-then ! (load ! (from ! (stop !)) (look ! 20 refl)) (no-more !)) (λ s.
-        use1 W (later (some (λ (r : Scan). (‵ ftrue ⊛ ‵ (S.the-row .own r (s ∷ [])))
-        ⊛ raw (ensured 𝓤 H A start′.ended (start′.clauses 𝓤 H A at-mem run) tt (i, tt) tt r)))) (id⊢ 𝓤 _) $ await ! tt $ pick ! (λ r₀.
-        split ! $ move ! (1 ∷ []) $ use1 W (raw (fact 𝓤 (r₀ ≡ st))) (start-of 𝓤 H A at-mem run i r₀) $ heard ! (r₀ ≡ st) (λ e₀. split ! $ drop ! $
-        rewrite ! 0 (λ (h : Scan). ‵ (S.the-row .own h (s ∷ []))) e₀ refl $
-        peeks ! S.the-row (Is S.the-row) (shows 𝓤 H A S.the-row) st (s ∷ []) (λ is₀.
-        let told = LL.tells S.the-type S′.the-laws st (s ∷ []) is₀ in
-        let iss : Is S.the-row st (sv st ∷ []) = subst (Is S.the-row st) told is₀ in
-        land ! (from ! (stop !)) (init ! 12 refl (LL.lawful S.the-type S′.the-laws 𝓤 H A W .typed st _ is₀ .0)) $
-        rewrite ! 12 (λ (w : Val). ‵ (fat fullShare S′.mir l₆ 0 w)) (ap only told) refl $ drop ! $
+        -- [the row; the open borrow; obs; auth; true; t's fact; a's; _7; …: local i at 7 + 2 (7 - i)]
+        assigns ! (addr ! (from ! (fld ! refl (hop ! (look-in ! 19 (sub ! 0 refl (whole !))) (stop !))))) (from ! (stop !)) (init ! 13 refl (tt, tt)) $
+        assigns ! (agg ! (and-then ! (load ! (from ! (stop !)) (look ! 13 refl))
+        (and-then ! (load ! (from ! (fld ! refl (stop !))) (look-in ! 19 (sub ! 1 refl (whole !)))) (no-more !)))) (from ! (stop !))
+        (init ! 11 refl (tt, (tt, (record { fits = gn .0 }, tt)))) $
         -- lent as a `&` for α
         feqI ! ℕ (length ys) (length ys) refl $ fjoin ! $ lft-new ! tt (λ α. move ! (1 ∷ []) $
         use1 W (later (some (λ (g : GName). ‵ (ShrSlice (named 0) (α ∷ []) T.the-row .own (ref g) (sliceVal (b, o) (length ys) ∷ []))
@@ -219,25 +167,24 @@ module _ {M : Type 1} (𝓤 : URA M) (H : Heap 𝓤) (A : Atoms 𝓤) (W : Given
         (lends-shr-slice 𝓤 H A W T.the-row (named 0) (α ∷ []) fullShare ys b o gn) $
         await ! tt $ pick ! (λ γ₁. split ! $
         -- [the slice; the lender's part; α's token; the open borrow; …]
-        move ! (2 ∷ 0 ∷ []) $ use2 W (raw (Pass 𝓤 H A at-mem run .pre (toPass (α ∷ []) γ₁))) (goes-pass iss (α ∷ []) γ₁) $
-        -- [what the call is given; the lender's part; the open borrow; obs; auth; true; t's fact; a's; _8; …]
-        calls-at ! fm (Pass 𝓤 H A at-mem run) known-pass (toPass (α ∷ []) γ₁) (and-then ! (load ! (from ! (stop !)) (look ! 14 refl))
-        (and-then ! (load ! (from ! (stop !)) (look ! 12 refl)) (no-more !))) (λ u.
-        use1 W (later (some (λ (r : Scan). ((‵ (flft (α ∷ []) fullShare) ⊛ ‵ ftrue) ⊛ ‵ (S.the-row .own r (u ∷ [])))
-        ⊛ raw (ensured 𝓤 H A pass′.ended (pass′.clauses 𝓤 H A at-mem run) ((α ∷ []), tt) (ref γ₁, (st, tt)) tt r)))) (id⊢ 𝓤 _) $ await ! tt $ pick ! (λ r.
-        split ! $ move ! (1 ∷ []) $ use1 W (raw (fact 𝓤 (r ≡ d))) (pass-of 𝓤 H A at-mem run (α ∷ []) (ref γ₁) st r) $
-        heard ! (r ≡ d) (λ e. split ! $ move ! (1 ∷ []) $
-        rewrite ! 0 (λ (h : Scan). ‵ (S.the-row .own h (u ∷ []))) e refl $
-        peeks ! S.the-row (Is S.the-row) (shows 𝓤 H A S.the-row) d (u ∷ []) (λ is.
-        land ! (from ! (stop !)) (init ! 19 refl (LL.lawful S.the-type S′.the-laws 𝓤 H A W .typed d _ is .0)) $
-        rewrite ! 19 (λ (w : Val). ‵ (fat fullShare S′.mir l₃ 0 w)) (ap only (LL.tells S.the-type S′.the-laws d _ is)) refl $ drop ! $ split ! $
+        move ! (2 ∷ 0 ∷ []) $ use2 W (raw (Pass 𝓤 H A at-mem run .pre (toPass (α ∷ []) γ₁))) (goes-pass gi (α ∷ []) γ₁) $
+        -- [what the call is given; the lender's part; the open borrow; obs; auth; true; t's fact; a's; _7; …]
+        calls-at ! fm (Pass 𝓤 H A at-mem run) known-pass (toPass (α ∷ []) γ₁) (and-then ! (load ! (from ! (stop !)) (look ! 12 refl))
+        (and-then ! (load ! (from ! (stop !)) (look ! 18 refl)) (no-more !))) (λ u.
+        use1 W (later (some (λ (r : ℕ). ((‵ (flft (α ∷ []) fullShare) ⊛ ‵ ftrue) ⊛ ‵ (usize .own r (u ∷ [])))
+        ⊛ raw (ensured 𝓤 H A pass′.ended (pass′.clauses 𝓤 H A at-mem run) ((α ∷ []), tt) (ref γ₁, (i, tt)) tt r)))) (id⊢ 𝓤 _) $ await ! tt $ pick ! (λ r.
+        split ! $ move ! (1 ∷ []) $ use1 W (raw (fact 𝓤 (r ≡ j))) (pass-of 𝓤 H A at-mem run (α ∷ []) (ref γ₁) i r) $
+        heard ! (r ≡ j) (λ e. split ! $ move ! (1 ∷ []) $
+        rewrite ! 0 (λ (h : ℕ). ‵ (usize .own h (u ∷ []))) e refl $
+        peeks ! usize (Is usize) (shows 𝓤 H A usize) j (u ∷ []) (λ is.
+        land ! (from ! (stop !)) (init ! 17 refl (uint-lawful 𝓤 H A W w64 .typed j _ is .0)) $
+        rewrite ! 17 (λ (w : Val). ‵ (fat fullShare (tyInt w64) l₃ 0 w)) (ap only (uint-tells w64 j _ is)) refl $ drop ! $ split ! $
         -- α ends: the row is back
         lft-end ! tt $ move ! (0 ∷ 2 ∷ []) $ lent-back ! tt $ fsplit ! $ drop ! $ move ! (1 ∷ []) $ drop ! $
-        -- [the row; the open borrow; obs; auth; true; t's fact; a's; _8; …]
-        let fields = LL.owed S.the-type S′.the-laws d _ is in
-        assigns ! (addr ! (from ! (fld ! refl (hop ! (look-in ! 21 (sub ! 0 refl (whole !))) (stop !))))) (from ! (stop !)) (init ! 9 refl (tt, tt)) $
+        -- [the row; the open borrow; obs; auth; true; t's fact; a's; _7; …]
+        assigns ! (addr ! (from ! (fld ! refl (hop ! (look-in ! 19 (sub ! 0 refl (whole !))) (stop !))))) (from ! (stop !)) (init ! 9 refl (tt, tt)) $
         assigns ! (agg ! (and-then ! (load ! (from ! (stop !)) (look ! 9 refl))
-        (and-then ! (load ! (from ! (fld ! refl (stop !))) (look-in ! 21 (sub ! 1 refl (whole !)))) (no-more !)))) (from ! (stop !))
+        (and-then ! (load ! (from ! (fld ! refl (stop !))) (look-in ! 19 (sub ! 1 refl (whole !)))) (no-more !)))) (from ! (stop !))
         (init ! 7 refl (tt, (tt, (record { fits = gn .0 }, tt)))) $
         -- lent as a `&mut` for β
         use1 W (‵ (cells (mem T.the-row) ys b o)) (whole-in 𝓤 H A W T.the-row ys b o) $ lft-new ! tt (λ β. move ! (1 ∷ []) $
@@ -245,46 +192,41 @@ module _ {M : Type 1} (𝓤 : URA M) (H : Heap 𝓤) (A : Atoms 𝓤) (W : Given
         ⊛ ‵ (flent (β ∷ []) (Held T.the-row (length ys) b o g)))))
         (lends-slice 𝓤 H A W T.the-row (named 0) (β ∷ []) ys b o gn) $
         await ! tt $ pick ! (λ γ₂. split ! $
-        move ! (2 ∷ 0 ∷ []) $ use2 W (raw (Half 𝓤 H A at-mem run .pre (toHalf (β ∷ []) γ₂)))
-        (goes-half gi (fields .1 .1 .1 .0 .1) (fields .1 .1 .1 .1 .0 .1) (β ∷ []) γ₂) $
+        move ! (2 ∷ 0 ∷ []) $ use2 W (raw (Half 𝓤 H A at-mem run .pre (toHalf (β ∷ []) γ₂))) (goes-half gi (is .1) (β ∷ []) γ₂) $
         calls-at ! fm (Half 𝓤 H A at-mem run) known-half (toHalf (β ∷ []) γ₂)
-        (and-then ! (load ! (from ! (stop !)) (look ! 8 refl)) (and-then ! (load ! (from ! (stop !)) (look ! 20 refl))
-        (and-then ! (load ! (from ! (fld ! refl (stop !))) (look-in ! 18 (sub ! 3 refl (whole !))))
-        (and-then ! (load ! (from ! (fld ! refl (stop !))) (look-in ! 18 (sub ! 4 refl (whole !)))) (no-more !))))) (λ v.
+        (and-then ! (load ! (from ! (stop !)) (look ! 8 refl)) (and-then ! (load ! (from ! (stop !)) (look ! 18 refl))
+        (and-then ! (load ! (from ! (stop !)) (look ! 16 refl)) (no-more !)))) (λ v.
         use1 W (later (some (λ (r′ : ℕ). ((‵ (flft (β ∷ []) fullShare) ⊛ ‵ ftrue) ⊛ ‵ (u64 .own r′ (v ∷ [])))
-        ⊛ raw (ensured 𝓤 H A half′.ended (half′.clauses 𝓤 H A at-mem run) ((β ∷ []), tt) (ref γ₂, (i, (d .at, (d .code, tt)))) tt r′)))) (id⊢ 𝓤 _) $
+        ⊛ raw (ensured 𝓤 H A half′.ended (half′.clauses 𝓤 H A at-mem run) ((β ∷ []), tt) (ref γ₂, (i, (j, tt))) tt r′)))) (id⊢ 𝓤 _) $
         await ! tt $ pick ! (λ r′.
         split ! $ move ! (1 ∷ []) $
-        use1 W (some (λ (ws : Lasts half′.ended ((β ∷ []), tt) (ref γ₂, (i, (d .at, (d .code, tt))))). ‵
-        (lasts half′.ended ((β ∷ []), tt) (ref γ₂, (i, (d .at, (d .code, tt)))) ws)
-        ⊛ raw (fact 𝓤 ((r′ ≡ forkCode ys i (d .at) (d .code)) × (ws .0 ≡ forkList ys i (d .at) (d .code)))))) (id⊢ 𝓤 _) $ pick ! (λ ws.
-        split ! $ move ! (1 ∷ []) $ heard ! ((r′ ≡ forkCode ys i (d .at) (d .code)) × (ws .0 ≡ forkList ys i (d .at) (d .code))) (λ said. fsplit ! $ fsplit ! $
+        use1 W (some (λ (ws : Lasts half′.ended ((β ∷ []), tt) (ref γ₂, (i, (j, tt)))). ‵ (lasts half′.ended ((β ∷ []), tt) (ref γ₂, (i, (j, tt))) ws)
+        ⊛ raw (fact 𝓤 ((r′ ≡ forkCode ys i j) × (ws .0 ≡ forkList ys i j))))) (id⊢ 𝓤 _) $ pick ! (λ ws.
+        split ! $ move ! (1 ∷ []) $ heard ! ((r′ ≡ forkCode ys i j) × (ws .0 ≡ forkList ys i j)) (λ said. fsplit ! $ fsplit ! $
         -- [the last list; its length; true; the token and the result; the lender's part; the open borrow; …]
         move ! (3 ∷ []) $ split ! $ move ! (1 ∷ []) $ peeks ! u64 (Is u64) (shows 𝓤 H A u64) r′ (v ∷ []) (λ is′.
-        land ! (from ! (stop !)) (init ! 28 refl (uint-lawful 𝓤 H A W w64 .typed r′ _ is′ .0)) $
-        rewrite ! 28 (λ (w : Val). ‵ (fat fullShare (tyInt w64) l₀ 0 w)) (ap only (uint-tells w64 r′ _ is′)) refl $ drop ! $ split ! $
+        land ! (from ! (stop !)) (init ! 26 refl (uint-lawful 𝓤 H A W w64 .typed r′ _ is′ .0)) $
+        rewrite ! 26 (λ (w : Val). ‵ (fat fullShare (tyInt w64) l₀ 0 w)) (ap only (uint-tells w64 r′ _ is′)) refl $ drop ! $ split ! $
         -- β ends: the memory is back, with the last list; the run is closed with it
         lft-end ! tt $ move ! (0 ∷ 5 ∷ 2 ∷ []) $
         use3 W (later (‵ (Arr (mem T.the-row) (length ys) .lies (ws .0) b o))) (slice-back 𝓤 H A W T.the-row (β ∷ []) γ₂ (ws .0) (length ys) b o) $ await ! tt $
         fsplit ! $ feqL ! (λ len. use1 W (‵ (row T.the-row fullShare (ws .0) b o)) (whole-out 𝓤 H A W T.the-row (ws .0) b o) $ move ! (0 ∷ 4 ∷ 5 ∷ 6 ∷ []) $
         closes-slice ! tt T.the-row ys (ws .0) len b o $
-        -- [obs; the borrow; the token; true; its length; true; true; t's fact; a's; _8; …]
-        returns ! (look ! 25 refl) $ forget ! 9 refl $ forget ! 11 refl $ forget ! 13 refl $ forget ! 15 refl $ forget ! 17 refl $ forget ! 19 refl $
-        forget ! 21 refl $ forget ! 23 refl $ forget ! 25 refl $
-        move ! (25 ∷ 26 ∷ []) $ free1 ! $ move ! (23 ∷ 24 ∷ []) $ free1 ! $ move ! (21 ∷ 22 ∷ []) $ free1 ! $ move ! (19 ∷ 20 ∷ []) $ free1 ! $
-        move ! (17 ∷ 18 ∷ []) $ free1 ! $ move ! (15 ∷ 16 ∷ []) $ free1 ! $
-        move ! (13 ∷ 14 ∷ []) $ free1 ! $ move ! (11 ∷ 12 ∷ []) $ free1 ! $ move ! (9 ∷ 10 ∷ []) $ free1 ! $ free0 ! $
-        keep ! (0 ∷ 1 ∷ 2 ∷ 8 ∷ []) $ by ! (exits (ws .0) r′ len (said .0 ∙ fork-tied ys i .0, said .1 ∙ fork-tied ys i .1) (is′ .1)
-        gn))))))))))))))))))))))))))))
+        -- [obs; the borrow; the token; true; its length; true; true; t's fact; a's; _7; …]
+        returns ! (look ! 23 refl) $ forget ! 9 refl $ forget ! 11 refl $ forget ! 13 refl $ forget ! 15 refl $ forget ! 17 refl $ forget ! 19 refl $
+        forget ! 21 refl $ forget ! 23 refl $
+        move ! (23 ∷ 24 ∷ []) $ free1 ! $ move ! (21 ∷ 22 ∷ []) $ free1 ! $ move ! (19 ∷ 20 ∷ []) $ free1 ! $ move ! (17 ∷ 18 ∷ []) $ free1 ! $
+        move ! (15 ∷ 16 ∷ []) $ free1 ! $ move ! (13 ∷ 14 ∷ []) $ free1 ! $ move ! (11 ∷ 12 ∷ []) $ free1 ! $ move ! (9 ∷ 10 ∷ []) $ free1 ! $ free0 ! $
+        keep ! (0 ∷ 1 ∷ 2 ∷ 8 ∷ []) $ by ! (exits (ws .0) r′ len (said .0 ∙ fork-tied ys i .0, said .1 ∙ fork-tied ys i .1) (is′ .1) gn)))))))))))))))))))))))
 
 module _ {M : Type 1} (𝓤 : URA M) (H : Heap 𝓤) (A : Atoms 𝓤) (W : Given 𝓤 H A) (at-mem : Memory → SProp 𝓤) (run : Routine → Fun 𝓤) (𝓣 : Tables 𝓤 H)
-    (known-start : Triple 𝓤 (𝓣 .C #tables·seek-start) (Start 𝓤 H A at-mem run)) (known-pass : Triple 𝓤 (𝓣 .C #tables·scan-all) (Pass 𝓤 H A at-mem run))
+    (known-pass : Triple 𝓤 (𝓣 .C #tables·lowest-absent) (Pass 𝓤 H A at-mem run))
     (known-half : Triple 𝓤 (𝓣 .C #tables·fork-at) (Half 𝓤 H A at-mem run)) where
   walks : Walks 𝓤 H A f.ended stayed (WpFn 𝓤 H (𝓣 .C) (𝓣 .Λ) code.function) (f.clauses 𝓤 H A at-mem run)
   walks = walked 𝓤 H A f.ended stayed (f.clauses 𝓤 H A at-mem run) (WpFn 𝓤 H (𝓣 .C) (𝓣 .Λ) code.function) (λ κs. (slice-vals, (uint-vals w64, tt)))
       (λ κs. (mut-slice-tells (named 0) (κs .0) T.the-row, (uint-tells w64, tt)))
       (λ κs qs bounds a _ are. via 𝓤 _ (fst∗ 𝓤 _ (emp 𝓤)) (walk 𝓤 H A W at-mem run (κs .0) (qs .0) (a .0 .ptr .0) (a .0 .ptr .1) (a .0 .name) (a .0 .now)
-      (a .1 .0) (𝓣 .C) (𝓣 .Λ) (fmOf 𝓤 H (W .laws) 𝓣) known-start known-pass known-half (are .0 .0 .1) (are .1 .0 .1)))
+      (a .1 .0) (𝓣 .C) (𝓣 .Λ) (fmOf 𝓤 H (W .laws) 𝓣) known-pass known-half (are .0 .0 .1) (are .1 .0 .1)))
 
   meets : Meets 𝓤 H A f.signature (WpFn 𝓤 H (𝓣 .C) (𝓣 .Λ) code.function) (f.spec 𝓤 H A at-mem run)
   meets =
@@ -297,6 +239,5 @@ fork-spec 𝓤 H 𝓜 𝓖 𝓡 =
     entered 𝓤 H (tripleOf 𝓤 H (𝓖 .A) f.signature (f.spec 𝓤 H (𝓖 .A) (𝓜 .mem) (𝓡 .run)))
     (tables 𝓤 H 𝓜 𝓡 code.env .C) (tables 𝓤 H 𝓜 𝓡 code.env .Λ) #tables·fork code.function (code.unfolded 𝓤 H 𝓜 𝓡)
     (meets 𝓤 H (𝓖 .A) (givenOf 𝓤 H 𝓜 𝓖) (𝓜 .mem) (𝓡 .run) (tablesOf 𝓤 H 𝓜 (tables 𝓤 H 𝓜 𝓡 code.env))
-    (cited 𝓤 H (Start 𝓤 H (𝓖 .A) (𝓜 .mem) (𝓡 .run)) 𝓜 𝓡 code.env #tables·seek-start start-def.routine code.calls-tables·seek-start (start-thm.met 𝓤 H 𝓜 𝓖 𝓡))
-    (cited 𝓤 H (Pass 𝓤 H (𝓖 .A) (𝓜 .mem) (𝓡 .run)) 𝓜 𝓡 code.env #tables·scan-all pass-def.routine code.calls-tables·scan-all (pass-thm.met 𝓤 H 𝓜 𝓖 𝓡))
+    (cited 𝓤 H (Pass 𝓤 H (𝓖 .A) (𝓜 .mem) (𝓡 .run)) 𝓜 𝓡 code.env #tables·lowest-absent pass-def.routine code.calls-tables·lowest-absent (pass-thm.met 𝓤 H 𝓜 𝓖 𝓡))
     (cited 𝓤 H (Half 𝓤 H (𝓖 .A) (𝓜 .mem) (𝓡 .run)) 𝓜 𝓡 code.env #tables·fork-at half-def.routine code.calls-tables·fork-at (half-thm.met 𝓤 H 𝓜 𝓖 𝓡)))

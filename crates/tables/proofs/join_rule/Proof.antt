@@ -1,8 +1,9 @@
--- `tables::join_rule` meets its contract: what `pair_code` refuses, and else the answer of `joins::join`. Assumes nothing.
-use mathlib.Core.Path.{_≡_, ap, _∙_}
+-- `tables::join_rule` meets its contract: what `pair_code` refuses, and else what `joins::join` answers, as the table says it. Assumes nothing.
+use mathlib.Core.Path.{_≡_, ap₂, _∙_}
+use Rattle.rules.specs.declared.Given.{Given}
 use Rattle.rules.specs.declared.Record.{Record}
-use Rattle.tables.specs.Rules.{twoOf}
-use Rattle.tables.proofs.Forms.{none-is, join-refused, join-asked}
+use Rattle.tables.specs.Rules.{twoOf, atTable}
+use Rattle.tables.proofs.Forms.{none-is, join-refused, join-form}
 use borrow.Author.Needs.{needs}
 use Rattle.tables.proofs.join_rule.Statement.{statement}
 use Rattle.tables.proofs.join_rule.Tie as tie
@@ -29,11 +30,12 @@ returns-2 c =
     let j = c .before .before .before in
     let k = j .before in
     let g = k .before .before .args in
+    let x = j .join .result in
     let none = c .before .empties .result in
-    let h : c .settle-two .result ≡ twoOf (j .join .result .answer) (g .a) (g .s) (g .u) (j .join .result .stamp) none = c .settle-two .ensures in
+    let h : c .settle-two .result ≡ twoOf (atTable (x .answer)) (g .a) (g .s) (g .u) (x .stamp) none = c .settle-two .ensures in
     h
-    ∙ ap (λ (y : Record). twoOf (j .join .result .answer) (g .a) (g .s) (g .u) (j .join .result .stamp) y) (c .before .empties .ensures ∙ none-is)
-    ∙ join-asked (g .a) (g .b) (g .s) (g .u) (k .before .pair-code .result) (k .before .pair-code .ensures) (k .if1 .left) (j .join .result) (j .join .ensures)
+    ∙ ap₂ (λ (x : Given) (y : Record). twoOf (atTable (x .answer)) (g .a) (g .s) (g .u) (x .stamp) y) (j .join .ensures) (c .before .empties .ensures ∙ none-is)
+    ∙ join-form (g .a) (g .b) (g .s) (g .u) (k .before .pair-code .result) (k .before .pair-code .ensures) (k .if1 .left)
 
 pub join-rule-spec : {M : Type 1} → statement M
 join-rule-spec =

@@ -1,46 +1,70 @@
 -- `tables::weigh` meets its contract. Assumes nothing.
-use mathlib.Core.Path.{sym, ap, ap₂, _∙_}
-use Prim.Native.Nat.{ℕ}
+use mathlib.Core.Path.{sym, ap, subst, _∙_}
+use Prim.Native.Nat.{ℕ, _+_, _≤_}
 use native.Mathlib.Omega.{arith}
-use borrow.Author.Tests.{eq-eqb, ne-eqb}
-use Rattle.tables.specs.Scans.{weighOf}
+use borrow.Author.Tests.{lt-ltb, le-ltb, eq-eqb, ne-eqb}
+use Rattle.tables.specs.Scans.{weighOf, onwardTo}
+use Rattle.tables.proofs.Passes.{meet-few}
 use borrow.Author.Needs.{needs}
 use Rattle.tables.proofs.weigh.Statement.{statement}
 use Rattle.tables.proofs.weigh.Tie as tie
 
-after-requires : tie.Need-after-requires
-after-requires c κs = search needs
-
 returns : tie.Need-returns
 unfolding weighOf
-returns c =
-    let g = c .before .before .before .args in
-    simp (eq-eqb (g .s .at) (g .s .next) (omega arith))
-    (ap (λ (n : ℕ). record { kind = g .s .kind; mine = g .s .mine; next = n; at = g .s .at; code = 0 }) (c .before .after .ensures))
+returns c = simp (le-ltb (c .before .args .k) 32 (omega arith))
+
+add-result : tie.Need-add-result
+add-result c = search needs
+
+returns-2 : tie.Need-returns-2
+unfolding weighOf onwardTo
+returns-2 c =
+    let g = c .before .before .args in
+    simp (lt-ltb (g .k) 32 (omega arith), eq-eqb (g .s .at) (g .k) (omega arith))
 
 is-absent-requires : tie.Need-is-absent-requires
 is-absent-requires c κs = search needs
 
-returns-2 : tie.Need-returns-2
-unfolding weighOf
-returns-2 c =
-    let a = c .before .before .before in
-    let g = a .before .before .args in
-    simp (ne-eqb (g .s .at) (g .s .next) (λ e. omega arith), sym (c .before .is-absent .ensures) ∙ c .if2 .taken)
-    (ap (λ (n : ℕ). record { kind = g .s .kind; mine = g .s .mine; next = n; at = g .s .at; code = 0 }) (a .after .ensures))
+add-result-2 : tie.Need-add-result-2
+add-result-2 c = search needs
+
+returns-3 : tie.Need-returns-3
+unfolding weighOf onwardTo
+returns-3 c =
+    let a = c .before in
+    let g = a .before .before .before .args in
+    simp (lt-ltb (g .k) 32 (omega arith), ne-eqb (g .s .at) (g .k) (λ e. omega arith), sym (a .is-absent .ensures) ∙ c .if3 .taken)
+
+add-onward : tie.Need-add-onward
+add-onward c = search needs
 
 meet-code-requires : tie.Need-meet-code-requires
 meet-code-requires c κs = search needs
 
-returns-3 : tie.Need-returns-3
+onward-requires : tie.Need-onward-requires
+onward-requires c κs = subst (λ (n : ℕ). n ≤ 2000) (sym (c .meet-code .ensures)) (meet-few _ _)
+
+returns-4 : tie.Need-returns-4
 unfolding weighOf
-returns-3 c =
-    let a = c .before .before .before .before in
-    let g = a .before .before .args in
-    simp (ne-eqb (g .s .at) (g .s .next) (λ e. omega arith), sym (c .before .before .is-absent .ensures) ∙ c .before .if2 .left)
-    (ap₂ (λ (n k : ℕ). record { kind = g .s .kind; mine = g .s .mine; next = n; at = g .s .at; code = k }) (a .after .ensures) (c .meet-code .ensures))
+returns-4 c =
+    let m = c .before in
+    let k = m .before in
+    let a = k .before in
+    let g = a .before .before .before .args in
+    simp (lt-ltb (g .k) 32 (omega arith), ne-eqb (g .s .at) (g .k) (λ e. omega arith), sym (a .is-absent .ensures) ∙ k .if3 .left)
+    (c .onward .ensures ∙ ap (onwardTo (g .k + 1)) (m .meet-code .ensures))
 
 pub weigh-spec : {M : Type 1} → statement M
 weigh-spec =
     tie.close
-    (tie.spec after-requires returns is-absent-requires returns-2 meet-code-requires returns-3)
+    (tie.spec
+    returns
+    add-result
+    returns-2
+    is-absent-requires
+    add-result-2
+    returns-3
+    add-onward
+    meet-code-requires
+    onward-requires
+    returns-4)
