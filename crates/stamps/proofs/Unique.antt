@@ -3,10 +3,12 @@ use mathlib.Core.Path.{refl}
 use Rattle.rules.specs.Contracts.{OneAnswer}
 use Rattle.laws.proofs.Contracts.{agree, both-say}
 use Rattle.stamps.proofs.is_lawful
+use Rattle.stamps.proofs.is_lawful_in
 use Rattle.stamps.proofs.update
 use Rattle.stamps.proofs.fork
 use Rattle.stamps.proofs.meet
 use Rattle.stamps.proofs.compare
+use Rattle.stamps.proofs.compare_in
 
 pub is-lawful-one-answer : OneAnswer is_lawful.ended (λ M 𝓤. is_lawful.clauses 𝓤) (λ M 𝓤. is_lawful.spec 𝓤)
 is-lawful-one-answer M 𝓤 H A mem run = (refl, λ κs a g h r s v w. both-say 𝓤 (λ e f. (agree e f, refl)))
@@ -22,3 +24,9 @@ meet-one-answer M 𝓤 H A mem run = (refl, λ κs a g h r s v w. both-say 𝓤 
 
 pub compare-one-answer : OneAnswer compare.ended (λ M 𝓤. compare.clauses 𝓤) (λ M 𝓤. compare.spec 𝓤)
 compare-one-answer M 𝓤 H A mem run = (refl, λ κs a g h r s v w. both-say 𝓤 (λ e f. (agree e f, refl)))
+
+pub is-lawful-in-one-answer : OneAnswer is_lawful_in.ended (λ M 𝓤. is_lawful_in.clauses 𝓤) (λ M 𝓤. is_lawful_in.spec 𝓤)
+is-lawful-in-one-answer M 𝓤 H A mem run = (refl, λ κs a g h r s v w. both-say 𝓤 (λ e f. (agree e f, refl)))
+
+pub compare-in-one-answer : OneAnswer compare_in.ended (λ M 𝓤. compare_in.clauses 𝓤) (λ M 𝓤. compare_in.spec 𝓤)
+compare-in-one-answer M 𝓤 H A mem run = (refl, λ κs a g h r s v w. both-say 𝓤 (λ e f. (agree e f, refl)))

@@ -1,5 +1,5 @@
 // Stamps by value, on records of any content: lawful, update, fork, compare, and what 2, 8 and 9 ask of two stamps that meet.
-// The words of a record's names are lent to private functions, each with its count: u and v of updates, i and j of ids.
+// Functions named `.._in` take the words of names, each with its count: u and v of updates, i and j of ids.
 ghost use mathlib.Core.Path.{_≡_};
 ghost use mathlib.Core.Bool.{false, not, _&&_};
 ghost use mathlib.Core.List.{[]};
@@ -30,14 +30,28 @@ use walks::is_long;
 pub fn is_lawful(r: Record) -> bool
     ensures { λ b. ⌜ b ≡ isStored narrow r ⌝ }
 {
-    lawful_in(&r.update.words, r.update.count, &r.id.words, r.id.count)
+    is_lawful_in(&r.update.words, r.update.count, &r.id.words, r.id.count)
+}
+
+// Whether the two names are a lawful stamp.
+pub fn is_lawful_in<'a>(u: &'a [u64], uc: usize, i: &'a [u64], ic: usize) -> bool
+    ensures { λ b. ⌜ b ≡ isStored narrow (stamp uc (now (u .entry)) ic (now (i .entry))) ⌝ }
+{
+    if is_name_in(u, uc) {
+        if is_name_in(i, ic) {
+            if below_in(u, uc, i, ic) {
+                return !twins_in(i, ic);
+            }
+        }
+    }
+    false
 }
 
 // [u|i] becomes [i|i]; all zeros where the record is unlawful.
 pub fn update(r: Record) -> Given
     ensures { λ g. ⌜ g ≡ updated narrow r ⌝ }
 {
-    if lawful_in(&r.update.words, r.update.count, &r.id.words, r.id.count) {
+    if is_lawful_in(&r.update.words, r.update.count, &r.id.words, r.id.count) {
         let i = r.id;
         let s = Record { update: i, id: i };
         return Given {
@@ -57,7 +71,7 @@ pub fn fork(r: Record) -> Forked
     ensures { λ f. ⌜ f ≡ forked narrow r ⌝ }
 {
     let c = r.id.count;
-    if !lawful_in(&r.update.words, r.update.count, &r.id.words, c) {
+    if !is_lawful_in(&r.update.words, r.update.count, &r.id.words, c) {
         return no_fork(Refusal::Unlawful);
     }
     if long_in(&r.id.words, c) {
@@ -95,7 +109,7 @@ pub fn meet(a: Record, b: Record) -> Answer
 pub fn compare(a: Record, b: Record) -> Compared
     ensures { λ c. ⌜ c ≡ compared narrow a b ⌝ }
 {
-    judged(
+    compare_in(
         &a.update.words,
         a.update.count,
         &a.id.words,
@@ -105,6 +119,25 @@ pub fn compare(a: Record, b: Record) -> Compared
         &b.id.words,
         b.id.count,
     )
+}
+
+// How the first stamp stands to the second, or what the two are refused for. Of lawful ones the words that are counted tell it.
+pub fn compare_in<'a>(
+    u: &'a [u64],
+    uc: usize,
+    i: &'a [u64],
+    ic: usize,
+    v: &'a [u64],
+    vc: usize,
+    j: &'a [u64],
+    jc: usize,
+) -> Compared
+    ensures { λ r. ⌜ r ≡ compared narrow (stamp uc (now (u .entry)) ic (now (i .entry))) (stamp vc (now (v .entry)) jc (now (j .entry))) ⌝ }
+{
+    if !are_lawful(u, uc, i, ic, v, vc, j, jc) {
+        return Compared::Refused(Refusal::Unlawful);
+    }
+    walks::compare(&u[..uc], &i[..ic], &v[..vc], &j[..jc])
 }
 
 // What two stamps that meet are refused for. Of lawful ones the words that are counted tell it.
@@ -126,25 +159,6 @@ fn met<'a>(
     walks::meet(&u[..uc], &i[..ic], &v[..vc], &j[..jc])
 }
 
-// How the first stamp stands to the second, or what the two are refused for. Of lawful ones the words that are counted tell it.
-fn judged<'a>(
-    u: &'a [u64],
-    uc: usize,
-    i: &'a [u64],
-    ic: usize,
-    v: &'a [u64],
-    vc: usize,
-    j: &'a [u64],
-    jc: usize,
-) -> Compared
-    ensures { λ r. ⌜ r ≡ compared narrow (stamp uc (now (u .entry)) ic (now (i .entry))) (stamp vc (now (v .entry)) jc (now (j .entry))) ⌝ }
-{
-    if !are_lawful(u, uc, i, ic, v, vc, j, jc) {
-        return Compared::Refused(Refusal::Unlawful);
-    }
-    walks::compare(&u[..uc], &i[..ic], &v[..vc], &j[..jc])
-}
-
 // Whether both stamps are lawful.
 fn are_lawful<'a>(
     u: &'a [u64],
@@ -158,22 +172,8 @@ fn are_lawful<'a>(
 ) -> bool
     ensures { λ b. ⌜ b ≡ (isStored narrow (stamp uc (now (u .entry)) ic (now (i .entry))) && isStored narrow (stamp vc (now (v .entry)) jc (now (j .entry)))) ⌝ }
 {
-    if lawful_in(u, uc, i, ic) {
-        return lawful_in(v, vc, j, jc);
-    }
-    false
-}
-
-// Whether the two names are a lawful stamp.
-fn lawful_in<'a>(u: &'a [u64], uc: usize, i: &'a [u64], ic: usize) -> bool
-    ensures { λ b. ⌜ b ≡ isStored narrow (stamp uc (now (u .entry)) ic (now (i .entry))) ⌝ }
-{
-    if is_name_in(u, uc) {
-        if is_name_in(i, ic) {
-            if below_in(u, uc, i, ic) {
-                return !twins_in(i, ic);
-            }
-        }
+    if is_lawful_in(u, uc, i, ic) {
+        return is_lawful_in(v, vc, j, jc);
     }
     false
 }

@@ -26,23 +26,23 @@ module _ (g : tie.Start) where
   abbrev two : Record
   two = stamp (g .args .vc) (g .args .v .now) (g .args .jc) (g .args .j .now)
 
-lawful-in-requires : tie.Need-lawful-in-requires
-lawful-in-requires c κs = search needs
+is-lawful-in-requires : tie.Need-is-lawful-in-requires
+is-lawful-in-requires c κs = search needs
 
-lawful-in-requires-2 : tie.Need-lawful-in-requires-2
-lawful-in-requires-2 c κs = search needs
+is-lawful-in-requires-2 : tie.Need-is-lawful-in-requires-2
+is-lawful-in-requires-2 c κs = search needs
 
 returns : tie.Need-returns
 returns c =
     let a = c .before .before in
     let g = a .before .before .before .before .before in
-    second (one g) (two g) (c .lawful-in2 .result) (sym (a .lawful-in .ensures) ∙ c .before .if1 .taken) (c .lawful-in2 .ensures)
+    second (one g) (two g) (c .is-lawful-in2 .result) (sym (a .is-lawful-in .ensures) ∙ c .before .if1 .taken) (c .is-lawful-in2 .ensures)
 
 returns-2 : tie.Need-returns-2
 returns-2 c =
     let a = c .before in
     let g = a .before .before .before .before .before in
-    not-first (one g) (two g) (sym (a .lawful-in .ensures) ∙ c .if1 .left)
+    not-first (one g) (two g) (sym (a .is-lawful-in .ensures) ∙ c .if1 .left)
 
 pub are-lawful-spec : {M : Type 1} → statement M
-are-lawful-spec = tie.close (tie.spec lawful-in-requires lawful-in-requires-2 returns returns-2)
+are-lawful-spec = tie.close (tie.spec is-lawful-in-requires is-lawful-in-requires-2 returns returns-2)

@@ -3,11 +3,11 @@ use borrow.Author.Needs.{needs}
 use Rattle.stamps.proofs.compare.Statement.{statement}
 use Rattle.stamps.proofs.compare.Tie as tie
 
-judged-requires : tie.Need-judged-requires
-judged-requires c κs = search needs
+compare-in-requires : tie.Need-compare-in-requires
+compare-in-requires c κs = search needs
 
 returns : tie.Need-returns
-returns c = c .judged .ensures
+returns c = c .compare-in .ensures
 
 pub compare-spec : {M : Type 1} → statement M
-compare-spec = tie.close (tie.spec judged-requires returns)
+compare-spec = tie.close (tie.spec compare-in-requires returns)

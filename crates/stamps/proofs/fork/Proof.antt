@@ -36,8 +36,8 @@ module _ (L : Limits) (r : Record) where
   unfolding forked first unlawful long held
   then-refused f e l z = rw (e, l) (λ i. record { answer = z .0 i; zero = z .1 i; one = z .2 i })
 
-lawful-in-requires : tie.Need-lawful-in-requires
-lawful-in-requires c κs = search needs
+is-lawful-in-requires : tie.Need-is-lawful-in-requires
+is-lawful-in-requires c κs = search needs
 
 no-fork-requires : tie.Need-no-fork-requires
 no-fork-requires c κs = search needs
@@ -46,14 +46,14 @@ returns : tie.Need-returns
 returns c =
     let a = c .before .before in
     let g = a .before .before .before .before .before .before in
-    first-refused narrow (g .args .t1) (c .no-fork .result) (sym (a .lawful-in .ensures) ∙ not-true _ (c .before .if1 .taken)) (c .no-fork .ensures)
+    first-refused narrow (g .args .t1) (c .no-fork .result) (sym (a .is-lawful-in .ensures) ∙ not-true _ (c .before .if1 .taken)) (c .no-fork .ensures)
 
 long-in-requires : tie.Need-long-in-requires
 long-in-requires c κs =
     let o = c .before .before .before in
     let a = o .before in
     let g = a .before .before .before .before .before .before in
-    let named = stored-names narrow (g .args .t1) (sym (a .lawful-in .ensures) ∙ not-false _ (o .if1 .left)) in
+    let named = stored-names narrow (g .args .t1) (sym (a .is-lawful-in .ensures) ∙ not-false _ (o .if1 .left)) in
     search (named .0, named .1)
 
 no-fork-requires-2 : tie.Need-no-fork-requires-2
@@ -65,7 +65,7 @@ returns-2 c =
     let o = l .before .before .before .before in
     let a = o .before in
     let g = a .before .before .before .before .before .before in
-    then-refused narrow (g .args .t1) (c .no-fork2 .result) (sym (a .lawful-in .ensures) ∙ not-false _ (o .if1 .left))
+    then-refused narrow (g .args .t1) (c .no-fork2 .result) (sym (a .is-lawful-in .ensures) ∙ not-false _ (o .if1 .left))
     (sym (l .long-in .ensures) ∙ c .before .if2 .taken) (c .no-fork2 .ensures)
 
 grown-requires : tie.Need-grown-requires
@@ -75,7 +75,7 @@ grown-requires c κs =
     let o = l .before .before .before .before in
     let a = o .before in
     let g = a .before .before .before .before .before .before in (
-      stored-names narrow (g .args .t1) (sym (a .lawful-in .ensures) ∙ not-false _ (o .if1 .left)) .1,
+      stored-names narrow (g .args .t1) (sym (a .is-lawful-in .ensures) ∙ not-false _ (o .if1 .left)) .1,
       sym (l .long-in .ensures) ∙ n .if2 .left,
       omega arith,
     )
@@ -87,7 +87,7 @@ grown-requires-2 c κs =
     let o = l .before .before .before .before in
     let a = o .before in
     let g = a .before .before .before .before .before .before in (
-      stored-names narrow (g .args .t1) (sym (a .lawful-in .ensures) ∙ not-false _ (o .if1 .left)) .1,
+      stored-names narrow (g .args .t1) (sym (a .is-lawful-in .ensures) ∙ not-false _ (o .if1 .left)) .1,
       sym (l .long-in .ensures) ∙ n .if2 .left,
       omega arith,
     )
@@ -100,10 +100,10 @@ returns-3 c =
     let o = l .before .before .before .before in
     let a = o .before in
     let g = a .before .before .before .before .before .before in
-    forked-is narrow (g .args .t1) (k .grown .result) (c .grown2 .result) (sym (a .lawful-in .ensures) ∙ not-false _ (o .if1 .left))
+    forked-is narrow (g .args .t1) (k .grown .result) (c .grown2 .result) (sym (a .is-lawful-in .ensures) ∙ not-false _ (o .if1 .left))
     (sym (l .long-in .ensures) ∙ n .if2 .left) (k .grown .ensures) (c .grown2 .ensures)
 
 pub fork-spec : {M : Type 1} → statement M
 fork-spec =
     tie.close
-    (tie.spec lawful-in-requires no-fork-requires returns long-in-requires no-fork-requires-2 returns-2 grown-requires grown-requires-2 returns-3)
+    (tie.spec is-lawful-in-requires no-fork-requires returns long-in-requires no-fork-requires-2 returns-2 grown-requires grown-requires-2 returns-3)

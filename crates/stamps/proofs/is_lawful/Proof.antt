@@ -3,11 +3,11 @@ use borrow.Author.Needs.{needs}
 use Rattle.stamps.proofs.is_lawful.Statement.{statement}
 use Rattle.stamps.proofs.is_lawful.Tie as tie
 
-lawful-in-requires : tie.Need-lawful-in-requires
-lawful-in-requires c κs = search needs
+is-lawful-in-requires : tie.Need-is-lawful-in-requires
+is-lawful-in-requires c κs = search needs
 
 returns : tie.Need-returns
-returns c = c .lawful-in .ensures
+returns c = c .is-lawful-in .ensures
 
 pub is-lawful-spec : {M : Type 1} → statement M
-is-lawful-spec = tie.close (tie.spec lawful-in-requires returns)
+is-lawful-spec = tie.close (tie.spec is-lawful-in-requires returns)

@@ -17,11 +17,11 @@ refused : (L : Limits) (r : Record) (z : Record) → isStored L r ≡ false → 
 unfolding updated first unlawful
 refused L r z e b = rw e (ap (λ (x : Record). record { answer = Refused Unlawful; stamp = x }) b)
 
-lawful-in-requires : tie.Need-lawful-in-requires
-lawful-in-requires c κs = search needs
+is-lawful-in-requires : tie.Need-is-lawful-in-requires
+is-lawful-in-requires c κs = search needs
 
 returns : tie.Need-returns
-returns c = let a = c .before .before in updated-is narrow (a .before .before .before .before .before .before .args .t1) (sym (a .lawful-in .ensures) ∙ c .before .if1 .taken)
+returns c = let a = c .before .before in updated-is narrow (a .before .before .before .before .before .before .args .t1) (sym (a .is-lawful-in .ensures) ∙ c .before .if1 .taken)
 
 nothing-requires : tie.Need-nothing-requires
 nothing-requires c κs = search needs
@@ -29,7 +29,7 @@ nothing-requires c κs = search needs
 returns-2 : tie.Need-returns-2
 returns-2 c =
     let a = c .before .before in
-    refused narrow (a .before .before .before .before .before .before .args .t1) (c .nothing .result) (sym (a .lawful-in .ensures) ∙ c .before .if1 .left) (c .nothing .ensures)
+    refused narrow (a .before .before .before .before .before .before .args .t1) (c .nothing .result) (sym (a .is-lawful-in .ensures) ∙ c .before .if1 .left) (c .nothing .ensures)
 
 pub update-spec : {M : Type 1} → statement M
-update-spec = tie.close (tie.spec lawful-in-requires returns nothing-requires returns-2)
+update-spec = tie.close (tie.spec is-lawful-in-requires returns nothing-requires returns-2)

@@ -1,4 +1,4 @@
--- `stamps::lawful_in` meets its contract: the four parts of a stored record, one after the other. Assumes nothing.
+-- `stamps::is_lawful_in` meets its contract: the four parts of a stored record, one after the other. Assumes nothing.
 use borrow.Author.Needs.{needs}
 use mathlib.Core.Path.{_≡_, refl, sym, ap, _∙_}
 use mathlib.Core.Bool.{Bool, true, false, not}
@@ -9,8 +9,8 @@ use Rattle.rules.specs.Stored.{strsIn, isStoredName, isStored}
 use Rattle.rules.specs.declared.Record.{Record}
 use Rattle.stamps.specs.Lent.{stamp}
 use Rattle.stamps.proofs.Laws.{stored-parts}
-use Rattle.stamps.proofs.lawful_in.Statement.{statement}
-use Rattle.stamps.proofs.lawful_in.Tie as tie
+use Rattle.stamps.proofs.is_lawful_in.Statement.{statement}
+use Rattle.stamps.proofs.is_lawful_in.Tie as tie
 
 not-not : (b : Bool) → not (not b) ≡ b
 not-not true = refl
@@ -91,6 +91,6 @@ returns-4 c =
     let u = c .before in
     no-update (given (u .before .before .before)) (sym (u .is-name-in .ensures) ∙ c .if1 .left)
 
-pub lawful-in-spec : {M : Type 1} → statement M
-lawful-in-spec =
+pub is-lawful-in-spec : {M : Type 1} → statement M
+is-lawful-in-spec =
     tie.close (tie.spec is-name-in-requires is-name-in-requires-2 below-in-requires twins-in-requires returns returns-2 returns-3 returns-4)

@@ -1,4 +1,4 @@
--- `stamps::judged` meets its contract: an unlawful stamp is refused, and of lawful ones the walks tell the rest. Assumes nothing.
+-- `stamps::compare_in` meets its contract: an unlawful stamp is refused, and of lawful ones the walks tell the rest. Assumes nothing.
 use borrow.Author.Needs.{needs}
 use borrow.Author.Tests.{not-true, not-false}
 use mathlib.Core.Path.{_≡_, sym, ap, _∙_}
@@ -17,8 +17,8 @@ use Rattle.laws.proofs.Tests.{and-left, and-right}
 use Rattle.walks.proofs.Meets.{compare-walk}
 use Rattle.stamps.specs.Lent.{stamp}
 use Rattle.stamps.proofs.Laws.{front-count, lawful-room, not-both}
-use Rattle.stamps.proofs.judged.Statement.{statement}
-use Rattle.stamps.proofs.judged.Tie as tie
+use Rattle.stamps.proofs.compare_in.Statement.{statement}
+use Rattle.stamps.proofs.compare_in.Tie as tie
 
 not-told : (a b : Record) → (isStored narrow a && isStored narrow b) ≡ false → NotCompared Unlawful ≡ compared narrow a b
 unfolding compared
@@ -83,8 +83,8 @@ returns-2 c =
     let e = c .before .before .before .before .before in
     c .compare .ensures ∙ compare-walk narrow (omega arith) (one (start e)) (two (start e)) (first-lawful e) (second-lawful e)
 
-pub judged-spec : {M : Type 1} → statement M
-judged-spec =
+pub compare-in-spec : {M : Type 1} → statement M
+compare-in-spec =
     tie.close
     (tie.spec
     are-lawful-requires
