@@ -2,4 +2,3 @@
 pub mod Laws
 pub mod Shape
 pub mod Unique
-pub mod Ends

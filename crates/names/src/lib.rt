@@ -10,6 +10,7 @@ ghost use Rattle.rules.specs.Names.{all, rising};
 ghost use Rattle.rules.specs.Stored.{strsIn, isStoredName};
 use rules::Words;
 use strings::is_word;
+use strings::last;
 
 // A name has at most so many strings.
 pub const STRINGS: usize = 16;
@@ -45,8 +46,8 @@ fn rises(w: &[u64], c: usize) -> bool
     requires { ⌜ (1 ≤ c) × (c ≤ length (now w)) ⌝ }
     ensures { λ r. ⌜ r ≡ (all (isWord (narrow .digits)) (take c (now (w .entry))) && rising (strsIn (record { count = c; words = now (w .entry) }))) ⌝ }
 {
-    let mut last = w[0];
-    if !is_word(last) {
+    let mut prior = w[0];
+    if !is_word(prior) {
         return false;
     }
     let mut i = 1;
@@ -55,10 +56,10 @@ fn rises(w: &[u64], c: usize) -> bool
         if !is_word(s) {
             return false;
         }
-        if !ends_before(last, s) {
+        if !ends_before(prior, s) {
             return false;
         }
-        last = s;
+        prior = s;
         i += 1;
     }
     true
@@ -69,8 +70,7 @@ fn ends_before(a: u64, b: u64) -> bool
     requires { ⌜ (isWord (narrow .digits) a ≡ true) × (isWord (narrow .digits) b ≡ true) ⌝ }
     ensures { λ r. ⌜ r ≡ less (strOf a) (strOf b) ⌝ }
 {
-    let n = a % 64;
-    a - n + (u64::MAX >> n) < b
+    last(a) < b
 }
 
 // Whether the words from index c on are 0: no bit is set in any of them.

@@ -4,7 +4,7 @@ use mathlib.Core.Path.{_≡_}
 use mathlib.Core.Bool.{Bool, true, cond}
 use mathlib.Core.List.{List}
 use mathlib.Core.Option.{none, some}
-use Prim.Native.Nat.{ℕ, _+_, _*_, _-_, _/_, _%_, _^_, _≤_}
+use Prim.Native.Nat.{ℕ, _≤_}
 use lib.ListN.{length, take, drop}
 use Rattle.rules.specs.Limits.{narrow}
 use Rattle.rules.specs.Strings.{strOf, isWord}
@@ -13,6 +13,7 @@ use Rattle.rules.specs.Stamps.{Stamp}
 use Rattle.rules.specs.Packed.{bitsOf, takeString, takeName, unpacked, over}
 use Rattle.rules.specs.declared.Words.{Words}
 use Rattle.rules.specs.declared.Given.{Given}
+use Rattle.strings.specs.Words.{lastOf}
 use Rattle.walks.specs.Walks.{strs}
 use Rattle.packed.specs.declared.Counts.{Counts}
 use Rattle.packed.specs.declared.reading.OneString.{OneString}
@@ -51,10 +52,6 @@ pub record AreNames (u i : List ℕ) : Type 0 where
 -- the bits that are there to be read
 abbrev pub stream : ℕ → List ℕ → List Bool
 stream bits b = take bits (bitsOf b)
-
--- the last number of 64 bits that begins with the digits of a word
-unfoldable pub lastOf : ℕ → ℕ
-lastOf w = w / 2 ^ (64 - w % 64) * 2 ^ (64 - w % 64) + (2 ^ (64 - w % 64) - 1)
 
 -- the string at bit pos: its word, and the rest from bit next on; or none
 pub record StringAt (b : List ℕ) (bits pos : ℕ) (r : OneString) : Type 0 where

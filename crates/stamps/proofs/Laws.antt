@@ -10,24 +10,28 @@ use native.Mathlib.Numerals.{add-one}
 use native.Mathlib.Omega.{arith}
 use lib.Dec.{eqb}
 use lib.ListN.{length, getD, take, drop, set, replicate, length-map, length-replicate}
+use lib.Seq.{length-take-le}
 use borrow.Author.Tests.{eqb-false}
 use Rattle.rules.specs.Limits.{Limits, narrow}
 use Rattle.rules.specs.Strings.{Str, _▹_, digit, wordOf, strOf, isWord}
 use Rattle.rules.specs.Names.{Name, any, all, rising, isName, below}
 use Rattle.rules.specs.Stamps.{pair, isNone, lawful, append}
-use Rattle.rules.specs.Stored.{wordsOf, stored, strsIn, held, sameWords, sameRecord, isStoredName, isStored}
-use Rattle.rules.specs.Refusals.{touches, unknownTo}
+use Rattle.rules.specs.Stored.{wordsOf, stored, strsIn, held, sameWords, sameRecord, isStoredName, isStored, unlawful}
+use Rattle.rules.specs.Refusals.{first}
+use Rattle.rules.specs.Values.{meeting}
 use Rattle.rules.specs.declared.Words.{Words}
 use Rattle.rules.specs.declared.Record.{Record}
-use Rattle.laws.proofs.Tests.{and-left, and-right, In, any-none}
+use Rattle.rules.specs.declared.Refusal.the-variants.{Unlawful}
+use Rattle.rules.specs.declared.Answer.the-variants.{Refused}
+use Rattle.laws.proofs.Tests.{no, and-left, and-right, In, any-none}
 use Rattle.laws.proofs.Bits.{digit-eqb}
 use Rattle.laws.proofs.Words.{word-length, word-lt, word-grown}
 use Rattle.laws.proofs.Shares.{grown-length}
 use Rattle.laws.proofs.Fork.{append-length}
 use Rattle.laws.proofs.Lawful.{name-parts}
 use Rattle.laws.proofs.Stored.{stored-name, stored-name-is}
-use Rattle.walks.specs.Walks.{strs, belowWalk, touchWalk, unknownWalk, hasTwins, isLong}
-use Rattle.walks.proofs.Tells.{below-walk, touch-walk, unknown-walk, twins, long}
+use Rattle.walks.specs.Walks.{strs, belowWalk, hasTwins, isLong}
+use Rattle.walks.proofs.Tells.{below-walk, twins, long}
 use Rattle.names.proofs.Laws.{strs-cons, strs-end}
 use Rattle.names.proofs.Shape.{stored-full, stored-words, stored-rising}
 use Rattle.stamps.specs.Lent.{name, Named}
@@ -123,17 +127,27 @@ module _ (mc : ℕ) (m : List ℕ) (nc : ℕ) (n : List ℕ) (h : Named mc m) (k
   lent-below =
       below-walk (narrow .digits) (omega arith) (take mc m) (take nc n) (lent-words mc m h) (lent-words nc n k) (lent-rising mc m h) (lent-rising nc n k)
 
-  pub lent-touch : touchWalk (take mc m) (take nc n) ≡ touches (strsIn (name mc m)) (strsIn (name nc n))
-  unfolding strsIn
-  lent-touch =
-      touch-walk (narrow .digits) (omega arith) (take mc m) (take nc n) (lent-words mc m h) (lent-words nc n k) (lent-rising mc m h) (lent-rising nc n k)
+-- ---- two stamps
 
-pub lent-unknown : (uc : ℕ) (u : List ℕ) (ic : ℕ) (i : List ℕ) (vc : ℕ) (v : List ℕ) → Named uc u → Named ic i → Named vc v
-    → unknownWalk (take uc u) (take ic i) (take vc v) ≡ unknownTo (strsIn (name uc u)) (strsIn (name ic i)) (strsIn (name vc v))
-unfolding strsIn
-lent-unknown uc u ic i vc v h k l =
-    unknown-walk (narrow .digits) (omega arith) (take uc u) (take ic i) (take vc v) (lent-words uc u h) (lent-words ic i k) (lent-words vc v l)
-    (lent-rising uc u h) (lent-rising ic i k) (lent-rising vc v l)
+-- as many words as are counted, where there are so many
+pub front-count : (c : ℕ) (w : List ℕ) → c ≤ length w → c ≡ length (take c w)
+front-count c w h = sym (length-take-le c w h)
+
+-- a lawful stamp's counts are within its words
+pub lawful-room : (r : Record) → isStored narrow r ≡ true → (r .update .count ≤ length (r .update .words)) × (r .id .count ≤ length (r .id .words))
+lawful-room r h =
+    let n = stored-names narrow r h in
+    (lent-room (r .update .count) (r .update .words) (n .0), lent-room (r .id .count) (r .id .words) (n .1))
+
+-- where one is not lawful, that is what they are refused for
+pub not-both : (L : Limits) (a b : Record) → (isStored L a && isStored L b) ≡ false → Refused Unlawful ≡ first (meeting L a b [])
+unfolding first unlawful
+not-both L a b e = by (isStored L a) (isStored L b) refl refl e
+  where
+    by : (x y : Bool) → isStored L a ≡ x → isStored L b ≡ y → (x && y) ≡ false → Refused Unlawful ≡ first (meeting L a b [])
+    by true true p q e = absurd (no (sym e))
+    by true false p q e = rw (p, q)
+    by false y p q e = rw p
 
 -- ---- changed one after the other
 

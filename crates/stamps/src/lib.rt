@@ -1,16 +1,16 @@
 // Stamps by value, on records of any content: lawful, update, fork, compare, and what 2, 8 and 9 ask of two stamps that meet.
 // The words of a record's names are lent to private functions, each with its count: u and v of updates, i and j of ids.
 ghost use mathlib.Core.Path.{_≡_};
-ghost use mathlib.Core.Bool.{false, not};
+ghost use mathlib.Core.Bool.{false, not, _&&_};
 ghost use mathlib.Core.List.{[]};
 ghost use Prim.Native.Nat.{_<_};
 ghost use lib.Dec.{eqb};
 ghost use lib.ListN.{length};
 ghost use Rattle.rules.specs.Limits.{narrow};
 ghost use Rattle.rules.specs.Names.{any, below};
-ghost use Rattle.rules.specs.Stamps.{append, isNone, pair, verdict};
+ghost use Rattle.rules.specs.Stamps.{append, isNone, pair};
 ghost use Rattle.rules.specs.Stored.{blank, isStored, strsIn, wordsOf};
-ghost use Rattle.rules.specs.Refusals.{first, touches, unknownTo};
+ghost use Rattle.rules.specs.Refusals.{first};
 ghost use Rattle.rules.specs.Values.{updated, forked, compared, meeting};
 ghost use Rattle.rules.specs.declared.Answer.the-variants.{Refused};
 ghost use Rattle.stamps.specs.Lent.{name, stamp, Named};
@@ -21,13 +21,10 @@ use rules::Forked;
 use rules::Given;
 use rules::Record;
 use rules::Refusal;
-use rules::Verdict;
 use rules::Words;
 use walks::has_twins;
 use walks::is_below;
 use walks::is_long;
-use walks::is_touching;
-use walks::is_unknown;
 
 // Whether the record is the stored shape of a lawful stamp.
 pub fn is_lawful(r: Record) -> bool
@@ -98,7 +95,7 @@ pub fn meet(a: Record, b: Record) -> Answer
 pub fn compare(a: Record, b: Record) -> Compared
     ensures { λ c. ⌜ c ≡ compared narrow a b ⌝ }
 {
-    let m = met(
+    judged(
         &a.update.words,
         a.update.count,
         &a.id.words,
@@ -107,16 +104,64 @@ pub fn compare(a: Record, b: Record) -> Compared
         b.update.count,
         &b.id.words,
         b.id.count,
-    );
-    match m {
-        Answer::Refused(r) => Compared::Refused(r),
-        Answer::Done => Compared::Is(judged(
-            &a.update.words,
-            a.update.count,
-            &b.update.words,
-            b.update.count,
-        )),
+    )
+}
+
+// What two stamps that meet are refused for. Of lawful ones the words that are counted tell it.
+fn met<'a>(
+    u: &'a [u64],
+    uc: usize,
+    i: &'a [u64],
+    ic: usize,
+    v: &'a [u64],
+    vc: usize,
+    j: &'a [u64],
+    jc: usize,
+) -> Answer
+    ensures { λ r. ⌜ r ≡ first (meeting narrow (stamp uc (now (u .entry)) ic (now (i .entry))) (stamp vc (now (v .entry)) jc (now (j .entry))) []) ⌝ }
+{
+    if !are_lawful(u, uc, i, ic, v, vc, j, jc) {
+        return Answer::Refused(Refusal::Unlawful);
     }
+    walks::meet(&u[..uc], &i[..ic], &v[..vc], &j[..jc])
+}
+
+// How the first stamp stands to the second, or what the two are refused for. Of lawful ones the words that are counted tell it.
+fn judged<'a>(
+    u: &'a [u64],
+    uc: usize,
+    i: &'a [u64],
+    ic: usize,
+    v: &'a [u64],
+    vc: usize,
+    j: &'a [u64],
+    jc: usize,
+) -> Compared
+    ensures { λ r. ⌜ r ≡ compared narrow (stamp uc (now (u .entry)) ic (now (i .entry))) (stamp vc (now (v .entry)) jc (now (j .entry))) ⌝ }
+{
+    if !are_lawful(u, uc, i, ic, v, vc, j, jc) {
+        return Compared::Refused(Refusal::Unlawful);
+    }
+    walks::compare(&u[..uc], &i[..ic], &v[..vc], &j[..jc])
+}
+
+// Whether both stamps are lawful.
+fn are_lawful<'a>(
+    u: &'a [u64],
+    uc: usize,
+    i: &'a [u64],
+    ic: usize,
+    v: &'a [u64],
+    vc: usize,
+    j: &'a [u64],
+    jc: usize,
+) -> bool
+    ensures { λ b. ⌜ b ≡ (isStored narrow (stamp uc (now (u .entry)) ic (now (i .entry))) && isStored narrow (stamp vc (now (v .entry)) jc (now (j .entry)))) ⌝ }
+{
+    if lawful_in(u, uc, i, ic) {
+        return lawful_in(v, vc, j, jc);
+    }
+    false
 }
 
 // Whether the two names are a lawful stamp.
@@ -131,73 +176,6 @@ fn lawful_in<'a>(u: &'a [u64], uc: usize, i: &'a [u64], ic: usize) -> bool
         }
     }
     false
-}
-
-// The tests of two stamps that meet, in their order.
-fn met<'a>(
-    u: &'a [u64],
-    uc: usize,
-    i: &'a [u64],
-    ic: usize,
-    v: &'a [u64],
-    vc: usize,
-    j: &'a [u64],
-    jc: usize,
-) -> Answer
-    ensures { λ r. ⌜ r ≡ first (meeting narrow (stamp uc (now (u .entry)) ic (now (i .entry))) (stamp vc (now (v .entry)) jc (now (j .entry))) []) ⌝ }
-{
-    if !lawful_in(u, uc, i, ic) {
-        return Answer::Refused(Refusal::Unlawful);
-    }
-    if !lawful_in(v, vc, j, jc) {
-        return Answer::Refused(Refusal::Unlawful);
-    }
-    if touching_in(i, ic, j, jc) {
-        return Answer::Refused(Refusal::Overlap);
-    }
-    if touching_in(j, jc, i, ic) {
-        return Answer::Refused(Refusal::Overlap);
-    }
-    if unknown_in(u, uc, j, jc, v, vc) {
-        return Answer::Refused(Refusal::Unseen);
-    }
-    if unknown_in(v, vc, i, ic, u, uc) {
-        return Answer::Refused(Refusal::Unseen);
-    }
-    Answer::Done
-}
-
-// Whether some string of m is a prefix of a string of n.
-fn touching_in(m: &[u64], mc: usize, n: &[u64], nc: usize) -> bool
-    requires { ⌜ Named mc (now m) × Named nc (now n) ⌝ }
-    ensures { λ r. ⌜ r ≡ touches (strsIn (name mc (now (m .entry)))) (strsIn (name nc (now (n .entry)))) ⌝ }
-{
-    is_touching(&m[..mc], &n[..nc])
-}
-
-// Whether some string of the update u is below the id i and not below the update v.
-fn unknown_in(u: &[u64], uc: usize, i: &[u64], ic: usize, v: &[u64], vc: usize) -> bool
-    requires { ⌜ Named uc (now u) × Named ic (now i) × Named vc (now v) ⌝ }
-    ensures { λ r. ⌜ r ≡ unknownTo (strsIn (name uc (now (u .entry)))) (strsIn (name ic (now (i .entry)))) (strsIn (name vc (now (v .entry)))) ⌝ }
-{
-    is_unknown(&u[..uc], &i[..ic], &v[..vc])
-}
-
-// How an update stands to another: below is asked both ways.
-fn judged(u: &[u64], uc: usize, v: &[u64], vc: usize) -> Verdict
-    requires { ⌜ Named uc (now u) × Named vc (now v) ⌝ }
-    ensures { λ r. ⌜ r ≡ verdict (below (strsIn (name uc (now (u .entry)))) (strsIn (name vc (now (v .entry))))) (below (strsIn (name vc (now (v .entry)))) (strsIn (name uc (now (u .entry))))) ⌝ }
-{
-    if below_in(u, uc, v, vc) {
-        if below_in(v, vc, u, uc) {
-            return Verdict::Equal;
-        }
-        return Verdict::Obsolete;
-    }
-    if below_in(v, vc, u, uc) {
-        return Verdict::Newer;
-    }
-    Verdict::Conflict
 }
 
 // Whether each string of m is a prefix of some string of n.

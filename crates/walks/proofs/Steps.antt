@@ -1,17 +1,19 @@
 -- One word more, as a loop wants it: what each walk says of lists from an index on, by the word that stands there. Assumes nothing.
 use mathlib.Core.Path.{_≡_, refl, sym, ap, ap₂, _∙_}
-use mathlib.Core.Bool.{Bool, true, false, not, _&&_, _||_}
+use mathlib.Core.Bool.{Bool, false, true, cond, not, _&&_, _||_}
 use mathlib.Core.List.{List, [], _∷_}
+use mathlib.Core.Logic.{_⊎_, ⊎-elim}
 use Prim.Native.Nat.{ℕ, _+_, _-_, _%_, _≤_, _<_}
 use native.Mathlib.Omega.{arith}
 use native.Mathlib.Numerals.{add-one}
-use borrow.Author.Tests.{lt-ltb, le-ltb}
-use lib.Dec.{eqb}
+use borrow.Author.Tests.{lt-ltb, le-ltb, lt-leb, le-leb}
+use lib.Dec.{eqb, leb}
 use lib.ListN.{length, getD, drop, length-drop, drop-of-length-le}
 use lib.Seq.{drop-cons}
-use Rattle.rules.specs.Strings.{prefix, siblings, strOf}
+use Rattle.rules.specs.Strings.{siblings, strOf}
 use Rattle.rules.specs.Names.{any}
-use Rattle.walks.specs.Walks.{atLeast, heads, belowWalk, touchWalk, unknownWalk, hasTwins, isLong}
+use Rattle.strings.specs.Words.{lastOf}
+use Rattle.walks.specs.Walks.{atLeast, heads, belowWalk, overlapFrom, overlapWalk, unknownWalk, hasTwins, isLong}
 use Rattle.laws.proofs.Words.{str-length}
 
 -- the words from i on: the one at i, and those from i + 1 on
@@ -39,7 +41,7 @@ module _ (s : ℕ) (n : List ℕ) (j : ℕ) where
   unfolding atLeast
   none-left h = ap (atLeast s) (from-end n j h)
 
-  pub heads-at : j < length n → heads s (drop j n) ≡ prefix (strOf s) (strOf (getD n j 0))
+  pub heads-at : j < length n → heads s (drop j n) ≡ leb (getD n j 0) (lastOf s)
   unfolding heads
   heads-at h = ap (heads s) (from-cons n j h)
 
@@ -69,36 +71,55 @@ module _ (s : ℕ) (m n : List ℕ) (j : ℕ) where
   below-none h = ap (belowFrom s m) (none-left s n j h)
 
   -- the string at j extends s, or does not
-  pub below-at : (b : Bool) → j < length n → s ≤ getD n j 0 → prefix (strOf s) (strOf (getD n j 0)) ≡ b
+  pub below-at : (b : Bool) → j < length n → s ≤ getD n j 0 → leb (getD n j 0) (lastOf s) ≡ b
       → belowFrom s m (atLeast s (drop j n)) ≡ (b && belowWalk m (drop j n))
   below-at b h l e = ap (belowFrom s m) (stays s n j h l) ∙ ap (λ (x : Bool). x && belowWalk m (drop j n)) (heads-at s n j h ∙ e)
 
--- ---- touching
+-- ---- overlapping
 
-pub touch-end : (m : List ℕ) (i : ℕ) (l : List ℕ) → length m ≤ i → touchWalk (drop i m) l ≡ false
-unfolding touchWalk
-touch-end m i l h = ap (λ (k : List ℕ). touchWalk k l) (from-end m i h)
+module _ (m n : List ℕ) (i j : ℕ) where
+  -- one of the two has no string left
+  pub overlap-end : (length m ≤ i) ⊎ (length n ≤ j) → overlapWalk (drop i m) (drop j n) ≡ false
+  unfolding overlapWalk overlapFrom
+  overlap-end = ⊎-elim (λ h. ap (λ (l : List ℕ). overlapWalk l (drop j n)) (from-end m i h)) (λ h. ap (overlapWalk (drop i m)) (from-end n j h) ∙ none (drop i m))
+    where
+      none : (l : List ℕ) → overlapWalk l [] ≡ false
+      none [] = refl
+      none (s ∷ l) = refl
 
-touch-none : (m : List ℕ) → touchWalk m [] ≡ false
-unfolding touchWalk heads atLeast
-touch-none [] = refl
-touch-none (s ∷ m) = touch-none m
+  module _ (h : i < length m) (k : j < length n) where
+    abbrev here : ℕ
+    here = getD m i 0
 
--- the string at i is asked of the words of n from k on
-module _ (m n : List ℕ) (i j k : ℕ) (h : i < length m) (e : drop k n ≡ atLeast (getD m i 0) (drop j n)) where
-  touch-turn : touchWalk (drop i m) (drop j n) ≡ (heads (getD m i 0) (drop k n) || touchWalk (drop (i + 1) m) (drop k n))
-  unfolding touchWalk
-  touch-turn =
-      ap (λ (l : List ℕ). touchWalk l (drop j n)) (from-cons m i h)
-      ∙ ap (λ (l : List ℕ). heads (getD m i 0) l || touchWalk (drop (i + 1) m) l) (sym e)
+    abbrev there : ℕ
+    there = getD n j 0
 
-  pub touch-gone : length n ≤ k → touchWalk (drop i m) (drop j n) ≡ false
-  touch-gone g =
-      touch-turn ∙ ap₂ _||_ (heads-none (getD m i 0) n k g) (ap (touchWalk (drop (i + 1) m)) (from-end n k g) ∙ touch-none (drop (i + 1) m))
+    overlap-both : overlapWalk (drop i m) (drop j n) ≡ overlapWalk (here ∷ drop (i + 1) m) (there ∷ drop (j + 1) n)
+    overlap-both = ap₂ overlapWalk (from-cons m i h) (from-cons n j k)
 
-  pub touch-at : (b : Bool) → k < length n → prefix (strOf (getD m i 0)) (strOf (getD n k 0)) ≡ b
-      → touchWalk (drop i m) (drop j n) ≡ (b || touchWalk (drop (i + 1) m) (drop k n))
-  touch-at b g p = touch-turn ∙ ap (λ (x : Bool). x || touchWalk (drop (i + 1) m) (drop k n)) (heads-at (getD m i 0) n k g ∙ p)
+    -- the lower one is the string at i: the other extends it, or it is passed
+    module _ (l : here < there) where
+      pub lower-hit : there ≤ lastOf here → overlapWalk (drop i m) (drop j n) ≡ true
+      unfolding overlapWalk overlapFrom
+      lower-hit e = overlap-both ∙ rw (lt-ltb here there l, le-leb there (lastOf here) e)
+
+      pub lower-miss : lastOf here < there → overlapWalk (drop i m) (drop j n) ≡ overlapWalk (drop (i + 1) m) (drop j n)
+      unfolding overlapWalk overlapFrom
+      lower-miss e =
+          overlap-both
+          ∙ rw (lt-ltb here there l, lt-leb there (lastOf here) e) (ap (overlapWalk (drop (i + 1) m)) (sym (from-cons n j k)))
+
+    -- it is the string at j, or they are the same
+    module _ (l : there ≤ here) where
+      pub upper-hit : here ≤ lastOf there → overlapWalk (drop i m) (drop j n) ≡ true
+      unfolding overlapWalk overlapFrom
+      upper-hit e = overlap-both ∙ rw (le-ltb here there l, le-leb here (lastOf there) e)
+
+      pub upper-miss : lastOf there < here → overlapWalk (drop i m) (drop j n) ≡ overlapWalk (drop i m) (drop (j + 1) n)
+      unfolding overlapWalk overlapFrom
+      upper-miss e =
+          overlap-both
+          ∙ rw (le-ltb here there l, lt-leb here (lastOf there) e) (ap (λ (o : List ℕ). overlapWalk o (drop (j + 1) n)) (sym (from-cons m i h)))
 
 -- ---- unknown
 
@@ -109,29 +130,60 @@ unknown-end u a i v h = ap (λ (k : List ℕ). unknownWalk k i v) (from-end u a 
 unknown-none : (u v : List ℕ) → unknownWalk u [] v ≡ false
 unfolding unknownWalk heads atLeast
 unknown-none [] v = refl
-unknown-none (r ∷ u) v = unknown-none u (atLeast r v)
+unknown-none (r ∷ u) v = unknown-none u v
 
-module _ (u i v : List ℕ) (a b c : ℕ) (h : a < length u) where
-  -- no string of i is left
-  pub unknown-gone : (k : ℕ) → drop k i ≡ atLeast (getD u a 0) (drop b i) → length i ≤ k → unknownWalk (drop a u) (drop b i) (drop c v) ≡ false
-  unfolding unknownWalk heads
-  unknown-gone k e g =
-      let none : atLeast (getD u a 0) (drop b i) ≡ [] = sym e ∙ from-end i k g in
-      ap (λ (l : List ℕ). unknownWalk l (drop b i) (drop c v)) (from-cons u a h)
-      ∙ ap (λ (l : List ℕ). (heads (getD u a 0) l && not (heads (getD u a 0) (atLeast (getD u a 0) (drop c v)))) || unknownWalk (drop (a + 1) u) l (atLeast (getD u a 0) (drop c v))) none
-      ∙ unknown-none (drop (a + 1) u) (atLeast (getD u a 0) (drop c v))
+-- the string at a is asked of the words of i from j on
+module _ (u i v : List ℕ) (a b c : ℕ) (h : a < length u) (j : ℕ) (e : drop j i ≡ atLeast (getD u a 0) (drop b i)) where
+  abbrev asked : ℕ
+  asked = getD u a 0
 
-  -- the string at a is asked of the words of i from j on and of those of v from k on
-  pub unknown-at : (j k : ℕ) (y : Bool) → drop j i ≡ atLeast (getD u a 0) (drop b i) → drop k v ≡ atLeast (getD u a 0) (drop c v) → j < length i
-      → (prefix (strOf (getD u a 0)) (strOf (getD i j 0)) && not (heads (getD u a 0) (drop k v))) ≡ y
-      → unknownWalk (drop a u) (drop b i) (drop c v) ≡ (y || unknownWalk (drop (a + 1) u) (drop j i) (drop k v))
+  -- those of v behind are asked only where it is below i
+  abbrev answer : Bool → Bool
+  answer x =
+      cond x (not (heads asked (atLeast asked (drop c v))) || unknownWalk (drop (a + 1) u) (drop j i) (atLeast asked (drop c v)))
+      (unknownWalk (drop (a + 1) u) (drop j i) (drop c v))
+
+  unknown-turn : unknownWalk (drop a u) (drop b i) (drop c v) ≡ answer (heads asked (drop j i))
   unfolding unknownWalk
-  unknown-at j k y e f g p =
-      let r : ℕ = getD u a 0 in
+  unknown-turn =
       ap (λ (l : List ℕ). unknownWalk l (drop b i) (drop c v)) (from-cons u a h)
-      ∙ ap₂ (λ (l o : List ℕ). (heads r l && not (heads r o)) || unknownWalk (drop (a + 1) u) l o) (sym e) (sym f)
-      ∙ ap (λ (x : Bool). x || unknownWalk (drop (a + 1) u) (drop j i) (drop k v))
-      (ap (λ (x : Bool). x && not (heads r (drop k v))) (heads-at r i j g) ∙ p)
+      ∙ ap (λ (l : List ℕ).
+      cond (heads asked l) (not (heads asked (atLeast asked (drop c v))) || unknownWalk (drop (a + 1) u) l (atLeast asked (drop c v)))
+      (unknownWalk (drop (a + 1) u) l (drop c v))) (sym e)
+
+  -- no string of i is left
+  pub unknown-gone : length i ≤ j → unknownWalk (drop a u) (drop b i) (drop c v) ≡ false
+  unknown-gone g =
+      unknown-turn ∙ ap answer (heads-none asked i j g) ∙ ap (λ (l : List ℕ). unknownWalk (drop (a + 1) u) l (drop c v)) (from-end i j g)
+      ∙ unknown-none (drop (a + 1) u) (drop c v)
+
+  module _ (g : j < length i) where
+    -- it is not below i
+    pub unknown-passed : lastOf asked < getD i j 0
+        → unknownWalk (drop a u) (drop b i) (drop c v) ≡ unknownWalk (drop (a + 1) u) (drop j i) (drop c v)
+    unknown-passed l = unknown-turn ∙ ap answer (heads-at asked i j g ∙ lt-leb (getD i j 0) (lastOf asked) l)
+
+    -- it is, and is asked of the words of v from k on
+    module _ (l : getD i j 0 ≤ lastOf asked) (k : ℕ) (f : drop k v ≡ atLeast asked (drop c v)) where
+      unknown-at : unknownWalk (drop a u) (drop b i) (drop c v) ≡ (not (heads asked (drop k v)) || unknownWalk (drop (a + 1) u) (drop j i) (drop k v))
+      unknown-at =
+          unknown-turn ∙ ap answer (heads-at asked i j g ∙ le-leb (getD i j 0) (lastOf asked) l)
+          ∙ ap (λ (o : List ℕ). not (heads asked o) || unknownWalk (drop (a + 1) u) (drop j i) o) (sym f)
+
+      abbrev then : Bool → Bool
+      then x = not x || unknownWalk (drop (a + 1) u) (drop j i) (drop k v)
+
+      -- no string of v is left, or the next does not extend it
+      pub unknown-left : length v ≤ k → unknownWalk (drop a u) (drop b i) (drop c v) ≡ true
+      unknown-left o = unknown-at ∙ ap then (heads-none asked v k o)
+
+      pub unknown-found : k < length v → lastOf asked < getD v k 0 → unknownWalk (drop a u) (drop b i) (drop c v) ≡ true
+      unknown-found o p = unknown-at ∙ ap then (heads-at asked v k o ∙ lt-leb (getD v k 0) (lastOf asked) p)
+
+      -- it is known
+      pub unknown-known : k < length v → getD v k 0 ≤ lastOf asked
+          → unknownWalk (drop a u) (drop b i) (drop c v) ≡ unknownWalk (drop (a + 1) u) (drop j i) (drop k v)
+      unknown-known o p = unknown-at ∙ ap then (heads-at asked v k o ∙ le-leb (getD v k 0) (lastOf asked) p)
 
 -- ---- twins
 

@@ -1,25 +1,27 @@
 -- What the walks tell of names: on words of strings in rising order they are the rules' own questions. The words passed are below s, so none
 -- of them extends it; of those left, the first extends s or comes after it, and then so do all. Assumes nothing.
-use mathlib.Core.Path.{_≡_, refl, sym, ap, ap₂, _∙_}
+use mathlib.Core.Path.{_≡_, refl, sym, ap, ap₂, _∙_, subst}
 use mathlib.Core.Bool.{Bool, true, false, cond, not, _&&_, _||_}
 use mathlib.Core.List.{List, [], _∷_, dropLast}
-use mathlib.Core.Logic.{inl}
+use mathlib.Core.Logic.{inl, inr, ⊎-elim}
 use mathlib.Core.Option.{Option, some}
-use Prim.Native.Nat.{ℕ, _≤_}
+use Prim.Native.Nat.{ℕ, _≤_, _<_}
 use native.Mathlib.Omega.{arith}
 use borrow.Author.Tests.{lt-ltb, ltb-true, ltb-false}
-use lib.Dec.{eqb, ltb}
+use lib.Dec.{eqb, leb, ltb}
 use lib.ListN.{length}
 use Rattle.rules.specs.Limits.{narrow}
-use Rattle.rules.specs.Strings.{Str, prefix, siblings, strOf, isWord}
-use Rattle.rules.specs.Names.{any, all, rising, covered, below}
+use Rattle.rules.specs.Strings.{Str, prefix, less, siblings, strOf, isWord}
+use Rattle.rules.specs.Names.{Name, any, all, rising, covered, below}
 use Rattle.rules.specs.Stamps.{pair, isNone}
 use Rattle.rules.specs.Refusals.{touches, unknownTo}
-use Rattle.laws.proofs.Tests.{not-true, and-left, and-right, none-any}
+use Rattle.laws.proofs.Tests.{not-true, and-left, and-right, In, none-any}
 use Rattle.laws.proofs.Rising.{less-trans, less-apart, rising-head, rising-tail}
 use Rattle.laws.proofs.Pairs.{firstTwins, neighbour-pair}
-use Rattle.walks.specs.Walks.{strs, atLeast, heads, belowWalk, touchWalk, unknownWalk, hasTwins, isLong}
-use Rattle.walks.proofs.Order.{prefix-le, less-lt, le-less}
+use Rattle.strings.specs.Words.{lastOf}
+use Rattle.strings.proofs.Order.{prefix-le, less-lt, le-less}
+use Rattle.strings.proofs.Ends.{last-prefix}
+use Rattle.walks.specs.Walks.{strs, atLeast, heads, belowWalk, overlapFrom, overlapWalk, unknownWalk, hasTwins, isLong}
 
 -- what is passed for s is passed for any word not below s
 skip : (s r : ℕ) (n : List ℕ) → s ≤ r → atLeast r (atLeast s n) ≡ atLeast r n
@@ -31,10 +33,51 @@ skip s r (t ∷ n) h = by (ltb t s) refl (skip s r n h)
     by true e ih = ih ∙ rw (lt-ltb t r (omega (arith, ltb-true t s e)))
     by false e ih = refl
 
+-- ---- names of which one string comes before all of the other
+
+-- a string of one is a prefix of a string of the other
+abbrev overlaps : Name → Name → Bool
+overlaps m n = touches m n || touches n m
+
+or-swap : (a b : Bool) → (a || b) ≡ (b || a)
+or-swap true true = refl
+or-swap true false = refl
+or-swap false true = refl
+or-swap false false = refl
+
+overlaps-swap : (m n : Name) → overlaps m n ≡ overlaps n m
+overlaps-swap m n = or-swap (touches m n) (touches n m)
+
+overlaps-none : (m : Name) → overlaps m [] ≡ false
+unfolding touches covered any
+overlaps-none m = or-swap (touches m []) false ∙ none-any (λ s. covered s []) m (λ s i. refl)
+
+-- s is a prefix of none, and none is a prefix of s
+overlaps-first : (s : Str) (m n : Name) → ((t : Str) → In t n → less s t ≡ true) → overlaps (s ∷ m) n ≡ overlaps m n
+unfolding touches covered any
+overlaps-first s m n h =
+    ap₂ (λ (x y : Bool). (x || touches m n) || y) (none-any (prefix s) n (λ t i. less-apart s t (h t i) .0)) (each n h)
+  where
+    each : (l : Name) → ((t : Str) → In t l → less s t ≡ true) → any (λ t. prefix t s || any (prefix t) m) l ≡ any (λ t. any (prefix t) m) l
+    each [] f = refl
+    each (t ∷ l) f =
+        ap₂ (λ (x y : Bool). (x || any (prefix t) m) || y) (less-apart s t (f t (inl refl)) .1) (each l (λ u i. f u (inr i)))
+
+-- the string that is met first is a prefix of one there
+overlaps-hit : (s t : Str) (m n : Name) → prefix s t ≡ true → overlaps (s ∷ m) (t ∷ n) ≡ true
+unfolding touches covered any
+overlaps-hit s t m n p = rw p
+
+-- ---- words passed
+
 -- no word of m is below s: it is enough to say it of the first
 abbrev From : ℕ → List ℕ → Type 0
 From s [] = Unit {0}
 From s (r ∷ m) = s ≤ r
+
+from-after : (s r : ℕ) (m : List ℕ) → s ≤ r → From r m → From s m
+from-after s r [] h f = tt
+from-after s r (t ∷ m) h f = omega arith
 
 module _ (s : ℕ) where
   below-skip : (m n : List ℕ) → From s m → belowWalk m (atLeast s n) ≡ belowWalk m n
@@ -42,16 +85,11 @@ module _ (s : ℕ) where
   below-skip [] n f = refl
   below-skip (r ∷ m) n f = ap (λ (l : List ℕ). heads r l && belowWalk m l) (skip s r n f)
 
-  touch-skip : (m n : List ℕ) → From s m → touchWalk m (atLeast s n) ≡ touchWalk m n
-  unfolding touchWalk
-  touch-skip [] n f = refl
-  touch-skip (r ∷ m) n f = ap (λ (l : List ℕ). heads r l || touchWalk m l) (skip s r n f)
-
-  unknown-skip : (u i v : List ℕ) → From s u → unknownWalk u (atLeast s i) (atLeast s v) ≡ unknownWalk u i v
+  unknown-skip : (u i v : List ℕ) → From s u → unknownWalk u (atLeast s i) v ≡ unknownWalk u i v
   unfolding unknownWalk
   unknown-skip [] i v f = refl
   unknown-skip (r ∷ u) i v f =
-      ap₂ (λ (l o : List ℕ). (heads r l && not (heads r o)) || unknownWalk u l o) (skip s r i f) (skip s r v f)
+      ap (λ (l : List ℕ). cond (heads r l) (not (heads r (atLeast r v)) || unknownWalk u l (atLeast r v)) (unknownWalk u l v)) (skip s r i f)
 
 module _ (most : ℕ) (small : most ≤ 58) where
   -- words of strings
@@ -98,7 +136,7 @@ module _ (most : ℕ) (small : most ≤ 58) where
           ∙ sym
           (ap (λ (x : Bool). x || any (prefix (strOf s)) (strs n))
           (not-true (λ (p : prefix (strOf s) (strOf t) ≡ true). omega (arith, ltb-true t s e, prefix-le most small s t h ht p))))
-      by false e ih = at (prefix (strOf s) (strOf t)) refl (ltb-false t s e)
+      by false e ih = let l = ltb-false t s e in last-prefix most small s h t ht l ∙ at (prefix (strOf s) (strOf t)) refl l
 
   pub below-walk : (m n : List ℕ) → all (isWord most) m ≡ true → all (isWord most) n ≡ true → rising (strs m) ≡ true → rising (strs n) ≡ true
       → belowWalk m n ≡ below (strs m) (strs n)
@@ -108,22 +146,81 @@ module _ (most : ℕ) (small : most ≤ 58) where
       ap₂ _&&_ (covered-heads s n (words-head s m v) w k)
       (below-skip s m n (rising-from s m v h) ∙ below-walk m n (words-tail s m v) w (rising-tail (strOf s) (strs m) h) k)
 
-  pub touch-walk : (m n : List ℕ) → all (isWord most) m ≡ true → all (isWord most) n ≡ true → rising (strs m) ≡ true → rising (strs n) ≡ true
-      → touchWalk m n ≡ touches (strs m) (strs n)
-  unfolding touchWalk touches any
-  touch-walk [] n v w h k = refl
-  touch-walk (s ∷ m) n v w h k =
-      ap₂ _||_ (covered-heads s n (words-head s m v) w k)
-      (touch-skip s m n (rising-from s m v h) ∙ touch-walk m n (words-tail s m v) w (rising-tail (strOf s) (strs m) h) k)
+  -- what the walk of v has passed for s makes no difference to strings that are not below s
+  unknown-later : (s : ℕ) (u i v : List ℕ) → Words u → rising (strs u) ≡ true → From s u → unknownWalk u i (atLeast s v) ≡ unknownWalk u i v
+  unfolding unknownWalk
+  unknown-later s [] i v w k f = refl
+  unknown-later s (r ∷ u) i v w k f =
+      ap₂ (λ (l : List ℕ) (x : Bool). cond (heads r (atLeast r i)) (not (heads r l) || unknownWalk u (atLeast r i) l) x) (skip s r v f)
+      (unknown-later s u (atLeast r i) v (words-tail r u w) (rising-tail (strOf r) (strs u) k) (from-after s r u f (rising-from r u w k)))
 
   pub unknown-walk : (u i v : List ℕ) → all (isWord most) u ≡ true → all (isWord most) i ≡ true → all (isWord most) v ≡ true
       → rising (strs u) ≡ true → rising (strs i) ≡ true → rising (strs v) ≡ true → unknownWalk u i v ≡ unknownTo (strs u) (strs i) (strs v)
   unfolding unknownWalk unknownTo any
   unknown-walk [] i v wu wi wv hu hi hv = refl
   unknown-walk (r ∷ u) i v wu wi wv hu hi hv =
-      ap₂ _||_
-      (ap₂ (λ (x y : Bool). x && not y) (covered-heads r i (words-head r u wu) wi hi) (covered-heads r v (words-head r u wu) wv hv))
+      ap₂ (λ (x y : Bool). cond x (not y || unknownWalk u (atLeast r i) (atLeast r v)) (unknownWalk u (atLeast r i) v))
+      (covered-heads r i (words-head r u wu) wi hi) (covered-heads r v (words-head r u wu) wv hv)
+      ∙ by (covered (strOf r) (strs i)) (covered (strOf r) (strs v))
       (unknown-skip r u i v (rising-from r u wu hu) ∙ unknown-walk u i v (words-tail r u wu) wi wv (rising-tail (strOf r) (strs u) hu) hi hv)
+    where
+      by : (x y : Bool) → unknownWalk u (atLeast r i) v ≡ unknownTo (strs u) (strs i) (strs v)
+          → cond x (not y || unknownWalk u (atLeast r i) (atLeast r v)) (unknownWalk u (atLeast r i) v)
+          ≡ ((x && not y) || unknownTo (strs u) (strs i) (strs v))
+      by true true ih = unknown-later r u (atLeast r i) v (words-tail r u wu) (rising-tail (strOf r) (strs u) hu) (rising-from r u wu hu) ∙ ih
+      by true false ih = refl
+      by false y ih = ih
+
+  -- one that comes before the first of n comes before all
+  before-all : (s : Str) (t : Str) (n : Name) → less s t ≡ true → rising (t ∷ n) ≡ true → (x : Str) → In x (t ∷ n) → less s x ≡ true
+  before-all s t n h k x i = ⊎-elim (λ e. subst (λ (z : Str). less s z ≡ true) (sym e) h) (λ j. less-trans s t x h (rising-head t n k x j)) i
+
+  -- s and the first of n: where neither is a prefix of the other, the lower one touches nothing
+  overlap-from : (s : ℕ) (m n : List ℕ) → Words (s ∷ m) → Words n → rising (strs (s ∷ m)) ≡ true → rising (strs n) ≡ true
+      → ((n : List ℕ) → Words n → rising (strs n) ≡ true → overlapWalk m n ≡ overlaps (strs m) (strs n))
+      → overlapFrom s (overlapWalk m) n ≡ overlaps (strs (s ∷ m)) (strs n)
+  unfolding overlapFrom
+  overlap-from s m [] v w h k ih = sym (overlaps-none (strs (s ∷ m)))
+  overlap-from s m (t ∷ n) v w h k ih =
+      by (ltb s t) refl (overlap-from s m n v (words-tail t n w) h (rising-tail (strOf t) (strs n) k) ih)
+    where
+      hs : isWord most s ≡ true
+      hs = words-head s m v
+
+      ht : isWord most t ≡ true
+      ht = words-head t n w
+
+      lower : (b : Bool) → prefix (strOf s) (strOf t) ≡ b → s < t → (b || overlapWalk m (t ∷ n)) ≡ overlaps (strs (s ∷ m)) (strs (t ∷ n))
+      lower true p l = sym (overlaps-hit (strOf s) (strOf t) (strs m) (strs n) p)
+      lower false p l =
+          ih (t ∷ n) w k
+          ∙ sym (overlaps-first (strOf s) (strs m) (strs (t ∷ n)) (before-all (strOf s) (strOf t) (strs n) (le-less most small s t hs ht (omega arith) p) k))
+
+      upper : (b : Bool) → prefix (strOf t) (strOf s) ≡ b → t ≤ s → overlapFrom s (overlapWalk m) n ≡ overlaps (strs (s ∷ m)) (strs n)
+          → (b || overlapFrom s (overlapWalk m) n) ≡ overlaps (strs (s ∷ m)) (strs (t ∷ n))
+      upper true p l rest = sym (overlaps-swap (strs (s ∷ m)) (strs (t ∷ n)) ∙ overlaps-hit (strOf t) (strOf s) (strs n) (strs m) p)
+      upper false p l rest =
+          rest
+          ∙ sym
+          (overlaps-swap (strs (s ∷ m)) (strs (t ∷ n))
+          ∙ overlaps-first (strOf t) (strs n) (strs (s ∷ m)) (before-all (strOf t) (strOf s) (strs m) (le-less most small t s ht hs l p) h)
+          ∙ overlaps-swap (strs n) (strs (s ∷ m)))
+
+      by : (b : Bool) → ltb s t ≡ b → overlapFrom s (overlapWalk m) n ≡ overlaps (strs (s ∷ m)) (strs n)
+          → cond b (leb t (lastOf s) || overlapWalk m (t ∷ n)) (leb s (lastOf t) || overlapFrom s (overlapWalk m) n) ≡ overlaps (strs (s ∷ m)) (strs (t ∷ n))
+      by true e rest =
+          let l = ltb-true s t e in
+          ap (λ (x : Bool). x || overlapWalk m (t ∷ n)) (last-prefix most small s hs t ht (omega arith)) ∙ lower (prefix (strOf s) (strOf t)) refl l
+      by false e rest =
+          let l = ltb-false s t e in
+          ap (λ (x : Bool). x || overlapFrom s (overlapWalk m) n) (last-prefix most small t ht s hs l) ∙ upper (prefix (strOf t) (strOf s)) refl l rest
+
+  pub overlap-walk : (m n : List ℕ) → all (isWord most) m ≡ true → all (isWord most) n ≡ true → rising (strs m) ≡ true → rising (strs n) ≡ true
+      → overlapWalk m n ≡ (touches (strs m) (strs n) || touches (strs n) (strs m))
+  unfolding overlapWalk
+  overlap-walk [] n v w h k = sym (overlaps-swap [] (strs n) ∙ overlaps-none (strs n))
+  overlap-walk (s ∷ m) n v w h k =
+      overlap-from s m n v w h k (λ o x y. overlap-walk m o (words-tail s m v) x (rising-tail (strOf s) (strs m) h) y)
 
 -- ---- siblings, and the longest strings
 

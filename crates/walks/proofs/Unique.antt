@@ -2,20 +2,24 @@
 use mathlib.Core.Path.{refl}
 use Rattle.rules.specs.Contracts.{OneAnswer}
 use Rattle.laws.proofs.Contracts.{agree, both-say}
+use Rattle.walks.proofs.meet
+use Rattle.walks.proofs.compare
 use Rattle.walks.proofs.is_below
-use Rattle.walks.proofs.is_touching
-use Rattle.walks.proofs.is_unknown
+use Rattle.walks.proofs.is_overlapping
 use Rattle.walks.proofs.has_twins
 use Rattle.walks.proofs.is_long
+
+pub meet-one-answer : OneAnswer meet.ended (λ M 𝓤. meet.clauses 𝓤) (λ M 𝓤. meet.spec 𝓤)
+meet-one-answer M 𝓤 H A mem run = (refl, λ κs a g h r s v w. both-say 𝓤 (λ e f. (agree e f, refl)))
+
+pub compare-one-answer : OneAnswer compare.ended (λ M 𝓤. compare.clauses 𝓤) (λ M 𝓤. compare.spec 𝓤)
+compare-one-answer M 𝓤 H A mem run = (refl, λ κs a g h r s v w. both-say 𝓤 (λ e f. (agree e f, refl)))
 
 pub is-below-one-answer : OneAnswer is_below.ended (λ M 𝓤. is_below.clauses 𝓤) (λ M 𝓤. is_below.spec 𝓤)
 is-below-one-answer M 𝓤 H A mem run = (refl, λ κs a g h r s v w. both-say 𝓤 (λ e f. (agree e f, refl)))
 
-pub is-touching-one-answer : OneAnswer is_touching.ended (λ M 𝓤. is_touching.clauses 𝓤) (λ M 𝓤. is_touching.spec 𝓤)
-is-touching-one-answer M 𝓤 H A mem run = (refl, λ κs a g h r s v w. both-say 𝓤 (λ e f. (agree e f, refl)))
-
-pub is-unknown-one-answer : OneAnswer is_unknown.ended (λ M 𝓤. is_unknown.clauses 𝓤) (λ M 𝓤. is_unknown.spec 𝓤)
-is-unknown-one-answer M 𝓤 H A mem run = (refl, λ κs a g h r s v w. both-say 𝓤 (λ e f. (agree e f, refl)))
+pub is-overlapping-one-answer : OneAnswer is_overlapping.ended (λ M 𝓤. is_overlapping.clauses 𝓤) (λ M 𝓤. is_overlapping.spec 𝓤)
+is-overlapping-one-answer M 𝓤 H A mem run = (refl, λ κs a g h r s v w. both-say 𝓤 (λ e f. (agree e f, refl)))
 
 pub has-twins-one-answer : OneAnswer has_twins.ended (λ M 𝓤. has_twins.clauses 𝓤) (λ M 𝓤. has_twins.spec 𝓤)
 has-twins-one-answer M 𝓤 H A mem run = (refl, λ κs a g h r s v w. both-say 𝓤 (λ e f. (agree e f, refl)))

@@ -1,13 +1,26 @@
 -- Names as words, walked together: each string of the first is held against one string of the other, and no string is passed twice. The laws
--- of `Tells` say that on words of strings in rising order these are the rules' own questions.
+-- of `Tells` say that on words of strings in rising order these are the rules' own questions, those of `Meets` that on lawful stamps the
+-- answers are the rules' own.
 use mathlib.Core.Bool.{Bool, true, false, cond, not, _&&_, _||_}
 use mathlib.Core.List.{List, [], _∷_, map}
 use Prim.Native.Nat.{ℕ}
-use lib.Dec.{eqb, ltb}
-use lib.ListN.{length}
+use lib.Dec.{eqb, leb, ltb}
+use lib.ListN.{length, take}
 use Rattle.rules.specs.Limits.{narrow}
-use Rattle.rules.specs.Strings.{prefix, siblings, strOf}
+use Rattle.rules.specs.Strings.{siblings, strOf}
 use Rattle.rules.specs.Names.{Name, any}
+use Rattle.rules.specs.Stamps.{verdict}
+use Rattle.rules.specs.Refusals.{first}
+use Rattle.rules.specs.Values.{told}
+use Rattle.rules.specs.declared.Words.{Words}
+use Rattle.rules.specs.declared.Refusal.the-variants.{Overlap, Unseen}
+use Rattle.rules.specs.declared.Answer.{Answer}
+use Rattle.rules.specs.declared.Compared.{Compared}
+use Rattle.strings.specs.Words.{lastOf}
+
+-- the words that a record counts
+abbrev pub front : Words → List ℕ
+front w = take (w .count) (w .words)
 
 -- the strings that words tell
 abbrev pub strs : List ℕ → Name
@@ -18,25 +31,31 @@ unfoldable pub atLeast : ℕ → List ℕ → List ℕ
 atLeast s [] = []
 atLeast s (t ∷ n) = cond (ltb t s) (atLeast s n) (t ∷ n)
 
--- the first string extends s
+-- the first string extends s: of the words not below s those of such strings are not above the last that begins with its digits
 unfoldable pub heads : ℕ → List ℕ → Bool
 heads s [] = false
-heads s (t ∷ n) = prefix (strOf s) (strOf t)
+heads s (t ∷ n) = leb t (lastOf s)
 
 -- each string of m is a prefix of the first one of n that is not below it
 unfoldable pub belowWalk : List ℕ → List ℕ → Bool
 belowWalk [] n = true
 belowWalk (s ∷ m) n = heads s (atLeast s n) && belowWalk m (atLeast s n)
 
--- some string of m is
-unfoldable pub touchWalk : List ℕ → List ℕ → Bool
-touchWalk [] n = false
-touchWalk (s ∷ m) n = heads s (atLeast s n) || touchWalk m (atLeast s n)
-
--- some string of u is so in i, and is not in v
+-- some string of u is so in i, and is not in v: only then is v walked
 unfoldable pub unknownWalk : List ℕ → List ℕ → List ℕ → Bool
 unknownWalk [] i v = false
-unknownWalk (r ∷ u) i v = (heads r (atLeast r i) && not (heads r (atLeast r v))) || unknownWalk u (atLeast r i) (atLeast r v)
+unknownWalk (r ∷ u) i v =
+    cond (heads r (atLeast r i)) (not (heads r (atLeast r v)) || unknownWalk u (atLeast r i) (atLeast r v)) (unknownWalk u (atLeast r i) v)
+
+-- s stands before the words that k is about: of s and the first of n the lower one is held against the other, and passed
+unfoldable pub overlapFrom : ℕ → (List ℕ → Bool) → List ℕ → Bool
+overlapFrom s k [] = false
+overlapFrom s k (t ∷ n) = cond (ltb s t) (leb t (lastOf s) || k (t ∷ n)) (leb s (lastOf t) || overlapFrom s k n)
+
+-- some string of one is a prefix of a string of the other: one merge of both
+unfoldable pub overlapWalk : List ℕ → List ℕ → Bool
+overlapWalk [] n = false
+overlapWalk (s ∷ m) n = overlapFrom s (overlapWalk m) n
 
 -- two neighbours differ in the last digit only
 unfoldable pub hasTwins : List ℕ → Bool
@@ -47,3 +66,13 @@ hasTwins (s ∷ (t ∷ n)) = siblings (strOf s) (strOf t) || hasTwins (t ∷ n)
 -- some string has as many digits as a string may have
 unfoldable pub isLong : List ℕ → Bool
 isLong n = any (λ s. eqb (length (strOf s)) (narrow .digits)) n
+
+-- ---- two stamps that meet: u and i are the first's update and id, v and j the second's
+
+-- 8, then 9
+unfoldable pub meetWalk : List ℕ → List ℕ → List ℕ → List ℕ → Answer
+meetWalk u i v j = first ((overlapWalk i j, Overlap) ∷ (unknownWalk u j v || unknownWalk v i u, Unseen) ∷ [])
+
+-- how the first stands to the second, where they are not refused
+unfoldable pub compareWalk : List ℕ → List ℕ → List ℕ → List ℕ → Compared
+compareWalk u i v j = told (meetWalk u i v j) (verdict (belowWalk u v) (belowWalk v u))

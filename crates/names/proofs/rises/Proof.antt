@@ -22,14 +22,14 @@ lent c w = record { count = c; words = w }
 
 -- what is left to ask: of the words from i on, and of the strings from the one before on
 abbrev Inv-loop : tie.InvT-loop
-Inv-loop w c last₀ i₀ last i =
+Inv-loop w c prior₀ i₀ prior i =
     (i ≤ c)
-    × (isWord 24 last ≡ true)
-    × ((all (isWord 24) (drop i (take c w)) && chain (strOf last) (drop i (strsIn (lent c w))))
+    × (isWord 24 prior ≡ true)
+    × ((all (isWord 24) (drop i (take c w)) && chain (strOf prior) (drop i (strsIn (lent c w))))
     ≡ (all (isWord 24) (take c w) && rising (strsIn (lent c w))))
 
 abbrev μ-loop : tie.MeasureT-loop
-μ-loop w c last₀ i₀ last i = c - i
+μ-loop w c prior₀ i₀ prior i = c - i
 
 -- the word at i, and the string that it tells, stand before the others
 module _ (g : tie.Start Inv-loop μ-loop) (i : ℕ) where
@@ -42,8 +42,8 @@ module _ (g : tie.Start Inv-loop μ-loop) (i : ℕ) where
   str-cons : i < g .args .c → drop i (strsIn record-of) ≡ strOf (getD (g .args .w .now) i 0) ∷ drop (i + 1) (strsIn record-of)
   str-cons l = strs-cons record-of (length (g .args .w .now)) refl i (omega (arith, g .pre))
 
-shared-slice-read-last : tie.Need-shared-slice-read-last Inv-loop μ-loop
-shared-slice-read-last c = search needs
+shared-slice-read-prior : tie.Need-shared-slice-read-prior Inv-loop μ-loop
+shared-slice-read-prior c = search needs
 
 is-word-requires : tie.Need-is-word-requires Inv-loop μ-loop
 is-word-requires c κs = search needs
@@ -78,7 +78,7 @@ returns-2 c =
     let g = l .before .before .before .before .before in
     let w = c .before .is-word2 in
     sym
-    (ap (λ (b : Bool). b && chain (strOf (l .loop .last)) (drop (l .loop .i) (strsIn (record-of g 0))))
+    (ap (λ (b : Bool). b && chain (strOf (l .loop .prior)) (drop (l .loop .i) (strsIn (record-of g 0))))
     (all-stop (isWord 24) (word-cons g (l .loop .i) (omega arith)) (sym (w .ensures) ∙ not-true (w .result) (c .if2 .taken))))
     ∙ l .loop .inv .2
 
@@ -95,7 +95,7 @@ returns-3 c =
     let words = all (isWord 24) (drop (l .loop .i) (front (record-of g 0))) in
     sym
     (ap (λ (x : Bool). words && x)
-    (chain-stop (strOf (l .loop .last)) (str-cons g (l .loop .i) (omega arith)) (sym (b .ensures) ∙ not-true (b .result) (c .if3 .taken)))
+    (chain-stop (strOf (l .loop .prior)) (str-cons g (l .loop .i) (omega arith)) (sym (b .ensures) ∙ not-true (b .result) (c .if3 .taken)))
     ∙ and-false words)
     ∙ l .loop .inv .2
 
@@ -116,7 +116,7 @@ loop-again c =
       is,
       sym
           (ap₂ _&&_ (all-more (isWord 24) (word-cons g (l .loop .i) (omega arith)) is)
-          (chain-more (strOf (l .loop .last)) (str-cons g (l .loop .i) (omega arith)) (sym (b .ensures) ∙ not-false (b .result) (c .if3 .left))))
+          (chain-more (strOf (l .loop .prior)) (str-cons g (l .loop .i) (omega arith)) (sym (b .ensures) ∙ not-false (b .result) (c .if3 .left))))
           ∙ l .loop .inv .2,
     )
 
@@ -128,7 +128,7 @@ returns-4 c =
     let room = length (g .args .w .now) in
     sym
     (ap₂ _&&_ (all-end (isWord 24) (front-end n room refl (l .loop .i) (omega arith)))
-    (chain-end (strOf (l .loop .last)) (strs-end n room refl (l .loop .i) (omega arith))))
+    (chain-end (strOf (l .loop .prior)) (strs-end n room refl (l .loop .i) (omega arith))))
     ∙ l .loop .inv .2
 
 pub rises-spec : {M : Type 1} → statement M
@@ -137,7 +137,7 @@ rises-spec =
     (tie.spec
     Inv-loop
     μ-loop
-    shared-slice-read-last
+    shared-slice-read-prior
     is-word-requires
     returns
     loop-holds

@@ -25,7 +25,7 @@ use Rattle.rules.specs.declared.Answer.the-variants.{Done, Refused}
 use Rattle.laws.proofs.Tests.{and-left, and-right}
 use Rattle.layout.proofs.RoundTrip.{unpacked-names}
 use Rattle.walks.specs.Walks.{strs}
-use Rattle.walks.proofs.Order.{word-is}
+use Rattle.strings.proofs.Order.{word-is}
 use Rattle.packed.specs.declared.Counts.{Counts}
 use Rattle.packed.specs.declared.reading.TwoNames.{TwoNames}
 use Rattle.packed.specs.Reading.{countsOf, lentTo, areWords, toldBy, AreNames, NamesIn}

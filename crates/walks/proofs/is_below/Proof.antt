@@ -5,8 +5,9 @@ use mathlib.Core.Path.{_≡_, refl, sym, ap, _∙_}
 use mathlib.Core.Bool.{true, false}
 use native.Mathlib.Omega.{arith}
 use Prim.Native.Nat.{_+_, _-_}
-use borrow.Author.Tests.{not-true, not-false}
+use borrow.Author.Tests.{le-leb, lt-leb}
 use lib.ListN.{length, getD, drop}
+use Rattle.strings.specs.Words.{lastOf}
 use Rattle.walks.specs.Walks.{atLeast, belowWalk}
 use Rattle.walks.proofs.Steps.{passed, belowFrom, below-turn, below-end, below-none, below-at}
 use Rattle.walks.proofs.is_below.Statement.{statement}
@@ -64,14 +65,14 @@ loop-again c =
       ap (belowFrom s (drop (e .each .i + 1) m)) (passed s (g .args .n .now) (l .loop .j) (omega arith) (omega (arith, c .if2 .left))) ∙ l .loop .inv .1,
     )
 
-mul-is-prefix : tie.Need-mul-is-prefix Inv-loop μ-loop Inv-each μ-each
-mul-is-prefix c = search needs
+last-requires : tie.Need-last-requires Inv-loop μ-loop Inv-each μ-each
+last-requires c κs = search needs
 
-shared-slice-read-is-prefix : tie.Need-shared-slice-read-is-prefix Inv-loop μ-loop Inv-each μ-each
-shared-slice-read-is-prefix c = search needs
+mul-if3 : tie.Need-mul-if3 Inv-loop μ-loop Inv-each μ-each
+mul-if3 c = search needs
 
-is-prefix-requires : tie.Need-is-prefix-requires Inv-loop μ-loop Inv-each μ-each
-is-prefix-requires c κs = search needs
+shared-slice-read-if3 : tie.Need-shared-slice-read-if3 Inv-loop μ-loop Inv-each μ-each
+shared-slice-read-if3 c = search needs
 
 add-i : tie.Need-add-i Inv-loop μ-loop Inv-each μ-each
 add-i c = search needs
@@ -87,7 +88,7 @@ each-again c =
     let g = e .before .before .before in
     let m = g .args .m .now in
     let s = getD m (e .each .i) 0 in
-    let hit = sym (c .before .is-prefix .ensures) ∙ not-false (c .before .is-prefix .result) (c .if3 .left) in (
+    let hit = le-leb (getD (g .args .n .now) (l .loop .j) 0) (lastOf s) (omega (arith, c .if3 .left, c .before .before .last .ensures)) in (
       search needs,
       sym (below-at s (drop (e .each .i + 1) m) (g .args .n .now) (l .loop .j) true (omega arith) (omega (arith, t .if2 .taken)) hit) ∙ l .loop .inv .1,
     )
@@ -114,7 +115,7 @@ returns-3 c =
     let g = e .before .before .before in
     let m = g .args .m .now in
     let s = getD m (e .each .i) 0 in
-    let miss = sym (c .before .is-prefix .ensures) ∙ not-true (c .before .is-prefix .result) (c .if3 .taken) in
+    let miss = lt-leb (getD (g .args .n .now) (l .loop .j) 0) (lastOf s) (omega (arith, c .if3 .taken, c .before .before .last .ensures)) in
     sym (below-at s (drop (e .each .i + 1) m) (g .args .n .now) (l .loop .j) false (omega arith) (omega (arith, t .if2 .taken)) miss) ∙ l .loop .inv .1
 
 pub is-below-spec : {M : Type 1} → statement M
@@ -134,9 +135,9 @@ is-below-spec =
     add-j
     loop-less
     loop-again
-    mul-is-prefix
-    shared-slice-read-is-prefix
-    is-prefix-requires
+    last-requires
+    mul-if3
+    shared-slice-read-if3
     add-i
     each-less
     each-again

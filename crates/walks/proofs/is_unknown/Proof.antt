@@ -1,15 +1,13 @@
 -- `walks::is_unknown` meets its contract: the strings of u from a on, asked of the words of i from b on and of those of v from c on, decide.
 -- Where i has none left, none of u is below it. Assumes nothing.
 use borrow.Author.Needs.{needs}
-use mathlib.Core.Path.{_≡_, refl, sym, ap, ap₂, _∙_}
-use mathlib.Core.Bool.{Bool, true, false, not, _&&_}
+use mathlib.Core.Path.{_≡_, refl, sym, ap, _∙_}
 use mathlib.Core.Logic.{⊎-elim}
 use native.Mathlib.Omega.{arith}
-use Prim.Native.Nat.{_-_}
-use lib.ListN.{length, getD, drop}
-use Rattle.rules.specs.Strings.{prefix, strOf}
-use Rattle.walks.specs.Walks.{heads, unknownWalk}
-use Rattle.walks.proofs.Steps.{unknown-end, unknown-gone, unknown-at}
+use Prim.Native.Nat.{ℕ, _+_, _-_}
+use lib.ListN.{length, drop}
+use Rattle.walks.specs.Walks.{unknownWalk}
+use Rattle.walks.proofs.Steps.{unknown-end, unknown-gone, unknown-passed, unknown-left, unknown-found, unknown-known}
 use Rattle.walks.proofs.is_unknown.Statement.{statement}
 use Rattle.walks.proofs.is_unknown.Tie as tie
 
@@ -33,40 +31,55 @@ seek-requires c κs = search needs
 
 returns : tie.Need-returns Inv-loop μ-loop
 returns c =
-    let j = c .before in
-    let l = j .before .before .before in
-    let g = l .before .before .before .before in
+    let s = c .before in
+    let l = s .before .before .before in
+    let g = l .before .before .before .before .args in
     sym
-    (unknown-gone (g .args .u .now) (g .args .i .now) (g .args .v .now) (l .loop .a) (l .loop .b) (l .loop .c) (omega arith)
-    (j .seek .result) (j .seek .ensures) (omega arith))
+    (unknown-gone (g .u .now) (g .i .now) (g .v .now) (l .loop .a) (l .loop .b) (l .loop .c) (omega arith) (s .seek .result) (s .seek .ensures)
+    (c .if1 .taken))
     ∙ l .loop .inv
+
+last-requires : tie.Need-last-requires Inv-loop μ-loop
+last-requires c κs = search needs
+
+mul-if2 : tie.Need-mul-if2 Inv-loop μ-loop
+mul-if2 c = search needs
+
+shared-slice-read-if2 : tie.Need-shared-slice-read-if2 Inv-loop μ-loop
+shared-slice-read-if2 c = search needs
 
 seek-requires-2 : tie.Need-seek-requires-2 Inv-loop μ-loop
 seek-requires-2 c κs = search needs
 
-mul-is-prefix : tie.Need-mul-is-prefix Inv-loop μ-loop
-mul-is-prefix c = search needs
-
-shared-slice-read-is-prefix : tie.Need-shared-slice-read-is-prefix Inv-loop μ-loop
-shared-slice-read-is-prefix c = search needs
-
-is-prefix-requires : tie.Need-is-prefix-requires Inv-loop μ-loop
-is-prefix-requires c κs = search needs
-
-leads-requires : tie.Need-leads-requires Inv-loop μ-loop
-leads-requires c κs = search needs
-
 returns-2 : tie.Need-returns-2 Inv-loop μ-loop
 returns-2 c =
-    let p = c .before .before .before in
-    let k = p .before .before in
-    let j = k .before .before in
-    let l = j .before .before .before in
-    let g = l .before .before .before .before in
-    let hit = ap₂ (λ (x y : Bool). x && not y) (sym (p .is-prefix .ensures) ∙ c .before .before .if2 .taken) (sym (c .before .leads .ensures)) ∙ c .if3 .taken in
+    let k = c .before in
+    let e = k .before .before .before in
+    let s = e .before .before in
+    let l = s .before .before .before in
+    let g = l .before .before .before .before .args in
     sym
-    (unknown-at (g .args .u .now) (g .args .i .now) (g .args .v .now) (l .loop .a) (l .loop .b) (l .loop .c) (omega arith)
-    (j .seek .result) (k .seek2 .result) true (j .seek .ensures) (k .seek2 .ensures) (omega arith) hit)
+    (unknown-left (g .u .now) (g .i .now) (g .v .now) (l .loop .a) (l .loop .b) (l .loop .c) (omega arith) (s .seek .result) (s .seek .ensures) (e .before .if1 .left)
+    (omega (arith, e .last .ensures, k .before .if2 .taken)) (k .seek2 .result) (k .seek2 .ensures) (c .if3 .taken))
+    ∙ l .loop .inv
+
+mul-if4 : tie.Need-mul-if4 Inv-loop μ-loop
+mul-if4 c = search needs
+
+shared-slice-read-if4 : tie.Need-shared-slice-read-if4 Inv-loop μ-loop
+shared-slice-read-if4 c = search needs
+
+returns-3 : tie.Need-returns-3 Inv-loop μ-loop
+returns-3 c =
+    let k = c .before .before .before in
+    let e = k .before .before .before in
+    let s = e .before .before in
+    let l = s .before .before .before in
+    let g = l .before .before .before .before .args in
+    sym
+    (unknown-found (g .u .now) (g .i .now) (g .v .now) (l .loop .a) (l .loop .b) (l .loop .c) (omega arith) (s .seek .result) (s .seek .ensures) (e .before .if1 .left)
+    (omega (arith, e .last .ensures, k .before .if2 .taken)) (k .seek2 .result) (k .seek2 .ensures) (c .before .before .if3 .left)
+    (omega (arith, e .last .ensures, c .if4 .taken)))
     ∙ l .loop .inv
 
 add-a : tie.Need-add-a Inv-loop μ-loop
@@ -77,29 +90,35 @@ loop-less c = search needs
 
 loop-again : tie.Need-loop-again Inv-loop μ-loop
 loop-again c =
-    let p = c .before in
-    let k = p .before .before in
-    let j = k .before .before in
-    let l = j .before .before .before in
-    let g = l .before .before .before .before in
-    let r = getD (g .args .u .now) (l .loop .a) 0 in
-    let asked : Bool = prefix (strOf r) (strOf (getD (g .args .i .now) (j .seek .result) 0)) && not (heads r (drop (k .seek2 .result) (g .args .v .now))) in
-    let miss : asked ≡ false =
-    ⊎-elim {C = asked ≡ false}
-    (λ w. ap₂ (λ (x y : Bool). x && not y) (sym (p .is-prefix .ensures) ∙ w .0 .taken) (sym (w .1 .ensures)) ∙ w .2 .left)
-    (λ w. ap (λ (x : Bool). x && not (heads r (drop (k .seek2 .result) (g .args .v .now)))) (sym (p .is-prefix .ensures) ∙ w .left))
-    (c .if2 .came) in
-    sym
-    (unknown-at (g .args .u .now) (g .args .i .now) (g .args .v .now) (l .loop .a) (l .loop .b) (l .loop .c) (omega arith)
-    (j .seek .result) (k .seek2 .result) false (j .seek .ensures) (k .seek2 .ensures) (omega arith) miss)
-    ∙ l .loop .inv
+    let e = c .before .before in
+    let s = e .before .before in
+    let l = s .before .before .before in
+    let g = l .before .before .before .before .args in
+    let u = g .u .now in
+    let i = g .i .now in
+    let v = g .v .now in
+    let a = l .loop .a in
+    let j = s .seek .result in
+    ⊎-elim
+    (λ w.
+    ap (λ (x : ℕ). unknownWalk (drop (a + 1) u) (drop j i) (drop x v)) (w .5)
+    ∙ sym
+    (unknown-known u i v a (l .loop .b) (l .loop .c) (omega arith) j (s .seek .ensures) (e .before .if1 .left)
+    (omega (arith, e .last .ensures, w .0 .taken)) (w .1 .result) (w .1 .ensures) (w .2 .left) (omega (arith, e .last .ensures, w .4 .left)))
+    ∙ l .loop .inv)
+    (λ w.
+    ap (λ (x : ℕ). unknownWalk (drop (a + 1) u) (drop j i) (drop x v)) (w .1)
+    ∙ sym
+    (unknown-passed u i v a (l .loop .b) (l .loop .c) (omega arith) j (s .seek .ensures) (e .before .if1 .left)
+    (omega (arith, e .last .ensures, w .0 .left)))
+    ∙ l .loop .inv)
+    (c .if2 .came)
 
-returns-3 : tie.Need-returns-3 Inv-loop μ-loop
-returns-3 c =
+returns-4 : tie.Need-returns-4 Inv-loop μ-loop
+returns-4 c =
     let l = c .before in
-    let g = l .before .before .before .before in
-    sym (unknown-end (g .args .u .now) (l .loop .a) (drop (l .loop .b) (g .args .i .now)) (drop (l .loop .c) (g .args .v .now)) (omega arith))
-    ∙ l .loop .inv
+    let g = l .before .before .before .before .args in
+    sym (unknown-end (g .u .now) (l .loop .a) (drop (l .loop .b) (g .i .now)) (drop (l .loop .c) (g .v .now)) (c .loop-test .left)) ∙ l .loop .inv
 
 pub is-unknown-spec : {M : Type 1} → statement M
 is-unknown-spec =
@@ -112,13 +131,15 @@ is-unknown-spec =
     shared-slice-read-r
     seek-requires
     returns
+    last-requires
+    mul-if2
+    shared-slice-read-if2
     seek-requires-2
-    mul-is-prefix
-    shared-slice-read-is-prefix
-    is-prefix-requires
-    leads-requires
     returns-2
+    mul-if4
+    shared-slice-read-if4
+    returns-3
     add-a
     loop-less
     loop-again
-    returns-3)
+    returns-4)

@@ -9,7 +9,7 @@ use native.Mathlib.Numerals.{add-one}
 use native.Mathlib.Omega.{arith}
 use borrow.Author.Needs.{needs}
 use borrow.Author.Tests.{le-leb, lt-leb, leb-true, leb-false, lt-ltb, le-ltb, not-true, not-false}
-use lib.Dec.{leb}
+use lib.Dec.{leb, lit≤}
 use lib.ListN.{length, take, drop, set, length-append, length-set}
 use lib.Seq.{drop-drop, take-suc-set}
 use Rattle.rules.specs.Limits.{narrow}
@@ -18,12 +18,13 @@ use Rattle.rules.specs.Names.{Name, all}
 use Rattle.rules.specs.Packed.{bitsOf, stringBits, Taken, thenTake, takeBits, takeNumber, takeString, takeMore, takeName}
 use Rattle.laws.proofs.Tests.{and-left, and-right, and-both}
 use Rattle.layout.proofs.Fields.{go-on, took-string}
+use Rattle.strings.specs.Words.{lastOf}
+use Rattle.strings.proofs.Ends.{last-less}
 use Rattle.walks.specs.Walks.{strs}
 use Rattle.packed.specs.declared.reading.OneString.{OneString}
-use Rattle.packed.specs.Reading.{stream, areWords, lastOf, StringAt, NameAt}
+use Rattle.packed.specs.Reading.{stream, areWords, StringAt, NameAt}
 use Rattle.packed.proofs.Laws.{string-length}
 use Rattle.packed.proofs.Streams.{part-within, top-value, shows, room-is}
-use Rattle.packed.proofs.Order.{less-last}
 use Rattle.packed.proofs.reading.name_in.Statement.{statement}
 use Rattle.packed.proofs.reading.name_in.Tie as tie
 
@@ -151,7 +152,7 @@ module _ {b : List ℕ} {bits pos k last next count : ℕ} {ws : List ℕ} (s : 
       → Sofar b bits pos j (r .last) (r .next) (count + 1) (set ws count (r .word))
   stepped j r e h t told l =
       let after : less (strOf (s .prior)) (strOf (r .word)) ≡ true =
-      less-last (s .prior) (r .word) (s .whole) (t .whole) ∙ lt-ltb (lastOf (s .prior)) (r .word) (omega (arith, s .least)) in
+      sym (last-less 24 (lit≤ tt) (s .prior) (s .whole) (r .word) (t .whole)) ∙ lt-ltb (lastOf (s .prior)) (r .word) (omega (arith, s .least)) in
       record {
         prior = r .word;
         whole = t .whole;
@@ -173,7 +174,7 @@ module _ {b : List ℕ} {bits pos k last next count : ℕ} {ws : List ℕ} (s : 
       → takeName narrow (drop pos (stream bits b)) ≡ none
   fallen j r e t told l =
       let not-less : less (strOf (s .prior)) (strOf (r .word)) ≡ false =
-      less-last (s .prior) (r .word) (s .whole) (t .whole) ∙ le-ltb (lastOf (s .prior)) (r .word) (omega (arith, s .least)) in
+      sym (last-less 24 (lit≤ tt) (s .prior) (s .whole) (r .word) (t .whole)) ∙ le-ltb (lastOf (s .prior)) (r .word) (omega (arith, s .least)) in
       goes (suc j) e
       ∙ not-after (strs (take count ws)) j (strOf (s .prior)) (strOf (r .word)) (drop next (stream bits b)) (drop (r .next) (stream bits b))
       (string-found t told) not-less

@@ -9,17 +9,19 @@ use native.Mathlib.Nat.{mod-lt}
 use native.Mathlib.Omega.{arith}
 use borrow.Author.Needs.{needs}
 use borrow.Author.Tests.{le-leb, lt-leb, leb-true, leb-false, eq-eqb}
-use lib.Bits.{bitAnd, and-le-l, and-mask}
+use lib.Bits.{bitAnd, and-le-l}
 use lib.Dec.{leb}
 use lib.ListN.{length, take, drop, length-drop}
-use lib.Pow.{split, pow-pos, pow-mono, shr-lt, high, ones-lt, ones-split}
+use lib.Pow.{pow-pos, pow-mono, shr-lt, high, ones-lt}
 use lib.Seq.{length-take-le, drop-drop}
 use Rattle.rules.specs.Limits.{narrow}
 use Rattle.rules.specs.Strings.{Str, field, valueFrom, value, aligned, wordOf, strOf, isWord}
 use Rattle.rules.specs.Packed.{bitsOf, takeBits, takeNumber, takeString}
 use Rattle.laws.proofs.Tests.{no, and-both}
 use Rattle.laws.proofs.Words.{word-value, word-length, str-word}
-use Rattle.packed.specs.Reading.{stream, lastOf, StringAt}
+use Rattle.strings.specs.Words.{lastOf}
+use Rattle.strings.proofs.Ones.{ones-are, above-is}
+use Rattle.packed.specs.Reading.{stream, StringAt}
 use Rattle.packed.proofs.Laws.{join-lt}
 use Rattle.packed.proofs.Streams.{part-within, field-up, top-value, shows, room-is}
 use Rattle.packed.proofs.reading.string_in.Statement.{statement}
@@ -48,15 +50,6 @@ module _ (bs : List Bool) where
 -- ---- the length, and the digits at the top of a word
 
 -- n digits of d with the length behind them, or with ones: neither leaves 64 bits
-ones-are : (n : ℕ) → n ≤ 64 → (2 ^ 64 - 1) / 2 ^ n ≡ 2 ^ (64 - n) - 1
-ones-are n h =
-    let e : 64 ≡ 64 - n + n = omega arith in
-    ap (λ (k : ℕ). (2 ^ k - 1) / 2 ^ n) e ∙ ap (λ (x : ℕ). x / 2 ^ n) (ones-split (64 - n) n) ∙ high (2 ^ (64 - n) - 1) n (ones-lt n)
-
-above-is : (d n : ℕ) → n ≤ 64 → d - bitAnd d ((2 ^ 64 - 1) / 2 ^ n) ≡ d / 2 ^ (64 - n) * 2 ^ (64 - n)
-above-is d n h =
-    ap (λ (x : ℕ). d - x) (ap (bitAnd d) (ones-are n h) ∙ and-mask d (64 - n)) ∙ omega (arith, split d (64 - n))
-
 fits : (d n x : ℕ) → n ≤ 64 → d < 2 ^ 64 → x < 2 ^ (64 - n) → d / 2 ^ (64 - n) * 2 ^ (64 - n) + x < 2 ^ 64
 fits d n x h l g =
     let e : n + (64 - n) ≡ 64 = omega arith in

@@ -1,21 +1,23 @@
--- The order of strings by one comparison of words: the words of strings that extend a stand together, and b comes behind a exactly when
--- b is above the last of them. Words that agree in a's digits are of strings of which one is a prefix of the other. Assumes nothing.
+-- Order and prefix by one comparison of words: the words of strings that extend a stand together, b comes behind a exactly when b is above
+-- the last of them, and extends a when it is neither above it nor below a. Words that agree in a's digits are of strings of which one is a
+-- prefix of the other. Assumes nothing.
 use mathlib.Core.Path.{_≡_, refl, sym, ap, _∙_}
 use mathlib.Core.Bool.{Bool, true, false}
 use mathlib.Core.List.{List, [], _∷_}
 use Prim.Native.Nat.{ℕ, zero, suc, _+_, _*_, _-_, _/_, _%_, _^_, _≤_, _<_}
 use native.Mathlib.Omega.{arith}
-use native.Mathlib.Nat.{mod-lt, div-lt-iff-lt-mul, mul-le-mul-right, add-mul}
+use native.Mathlib.Nat.{mod-lt, div-lt-iff-lt-mul, le-of-lt}
 use borrow.Author.Tests.{leb-true, leb-false, ltb-true, ltb-false, le-leb}
 use lib.Dec.{leb, ltb}
 use lib.ListN.{length, take}
-use lib.Pow.{split, high, pow-pos, pow-add, pow-mono, ones-split, ones-lt}
+use lib.Pow.{split, high, pow-pos, pow-add}
 use Rattle.rules.specs.Strings.{prefix, less, common, field, value, strOf, isWord}
 use Rattle.laws.proofs.Tests.{no, clash, not-true, not-false, iff, and-right, and-both}
 use Rattle.laws.proofs.Rising.{less-apart}
 use Rattle.laws.proofs.Bits.{field-length, value-field-exact}
-use Rattle.laws.proofs.Words.{field-top, prefix-words, str-length, word-value}
-use Rattle.walks.proofs.Order.{word-is, word-short, word-fits, less-lt, le-less}
+use Rattle.laws.proofs.Words.{field-top, prefix-words}
+use Rattle.strings.specs.Words.{lastOf}
+use Rattle.strings.proofs.Order.{word-fits, less-lt, le-less}
 
 -- ---- leading digits shared
 
@@ -91,69 +93,48 @@ module _ (a b : ℕ) (fa : a < 2 ^ 64) (fb : b < 2 ^ 64) where
           let m : b % 64 ≤ z = omega arith in
           clash (sym (prefix-words b a z refl) ∙ and-both (le-leb (b % 64) (a % 64) l) (le-leb (b % 64) z m)) (less-apart (strOf a) (strOf b) h .1)
 
--- ---- the last word that extends a
-
--- as it is computed from a: all bits behind the digits set
-abbrev pub lastOf : ℕ → ℕ
-lastOf a = a - a % 64 + (2 ^ 64 - 1) / 2 ^ (a % 64)
+-- ---- the last word that begins with a's digits
 
 module _ (most : ℕ) (small : most ≤ 58) (a : ℕ) (ha : isWord most a ≡ true) where
   abbrev rest : ℕ
   rest = 64 - a % 64
 
-  short : a % 64 ≤ 58
-  short = omega (arith, str-length a, word-short most small a ha)
-
-  room : 64 ≤ 2 ^ rest
-  room = pow-mono {i = 6} {j = rest} (omega (arith, short))
-
-  -- the digits moved to the top, and the length
-  digits : a ≡ a / 2 ^ rest * 2 ^ rest + a % 64
-  digits =
-      let v = value (strOf a) in
-      let e : a ≡ v * 2 ^ rest + a % 64 = word-is most small a ha ∙ word-value (strOf a) ∙ ap (λ (n : ℕ). v * 2 ^ (64 - n) + n) (str-length a) in
-      let h : a / 2 ^ rest ≡ v = ap (λ (x : ℕ). x / 2 ^ rest) e ∙ high v rest (omega (arith, short, room)) in
-      e ∙ ap (λ (x : ℕ). x * 2 ^ rest + a % 64) (sym h)
-
-  ones : (2 ^ 64 - 1) / 2 ^ (a % 64) ≡ 2 ^ rest - 1
-  ones =
-      ap (λ (k : ℕ). (2 ^ k - 1) / 2 ^ (a % 64)) (let e : 64 ≡ rest + a % 64 = omega (arith, short) in e)
-      ∙ ap (λ (x : ℕ). x / 2 ^ (a % 64)) (ones-split rest (a % 64))
-      ∙ high (2 ^ rest - 1) (a % 64) (ones-lt (a % 64))
-
   last-is : lastOf a ≡ a / 2 ^ rest * 2 ^ rest + (2 ^ rest - 1)
-  last-is = omega (arith, digits, ones)
+  unfolding lastOf
+  last-is = refl
 
-  pub last-fits : lastOf a < 2 ^ 64
-  last-fits =
-      let q = a / 2 ^ rest in
-      let f = word-fits most small a ha in
-      let whole : 2 ^ (a % 64) * 2 ^ rest ≡ 2 ^ 64 = sym (pow-add 2 (a % 64) rest) ∙ ap (λ (k : ℕ). 2 ^ k) (let e : a % 64 + rest ≡ 64 = omega (arith, short) in e) in
-      let m : (q + 1) * 2 ^ rest ≤ 2 ^ (a % 64) * 2 ^ rest = mul-le-mul-right (2 ^ rest) (omega (arith, top-fits a a f f a f)) in
-      omega (arith, last-is, room, whole, add-mul q 1 (2 ^ rest))
+  module _ (b : ℕ) (hb : isWord most b ≡ true) where
+    fa : a < 2 ^ 64
+    fa = word-fits most small a ha
 
-  -- b comes behind a exactly when b is above it
-  pub last-less : (b : ℕ) → isWord most b ≡ true → ltb (lastOf a) b ≡ less (strOf a) (strOf b)
-  last-less b hb = iff to from
-    where
-      fa : a < 2 ^ 64
-      fa = word-fits most small a ha
+    fb : b < 2 ^ 64
+    fb = word-fits most small b hb
 
-      fb : b < 2 ^ 64
-      fb = word-fits most small b hb
+    -- what is above it comes behind a
+    above-less : lastOf a < b → less (strOf a) (strOf b) ≡ true
+    above-less l =
+        le-less most small a b ha hb (omega (arith, last-is, split a rest, mod-lt a (pow-pos rest)))
+        (not-true (λ p. omega (arith, ap (λ (x : ℕ). x * 2 ^ rest) (extends-top a b fa fb p), last-is, split b rest, mod-lt b (pow-pos rest))))
 
-      to : ltb (lastOf a) b ≡ true → less (strOf a) (strOf b) ≡ true
-      to h =
-          let l = ltb-true (lastOf a) b h in
-          le-less most small a b ha hb (omega (arith, digits, room, short, last-is))
-          (not-true (λ p. omega (arith, ap (λ (x : ℕ). x * 2 ^ rest) (extends-top a b fa fb p), last-is, split b rest, mod-lt b (pow-pos rest))))
+    -- what is not, and is not below a, does not
+    within-not-less : a ≤ b → b ≤ lastOf a → less (strOf a) (strOf b) ≡ false
+    within-not-less l k = not-true (top-not-less a b fa fb (sym there))
+      where
+        there : b / 2 ^ rest ≡ a / 2 ^ rest
+        there =
+            let q = a / 2 ^ rest in
+            let e : b ≡ q * 2 ^ rest + (b - q * 2 ^ rest) = omega (arith, split a rest) in
+            ap (λ (x : ℕ). x / 2 ^ rest) e ∙ high q rest (omega (arith, last-is, pow-pos rest))
 
-      from : less (strOf a) (strOf b) ≡ true → ltb (lastOf a) b ≡ true
-      from h = not-false (λ e. top-not-less a b fa fb (sym (there (ltb-false (lastOf a) b e))) h)
-        where
-          there : b ≤ lastOf a → b / 2 ^ rest ≡ a / 2 ^ rest
-          there k =
-              let q = a / 2 ^ rest in
-              let l = less-lt most small a b ha hb h in
-              let e : b ≡ q * 2 ^ rest + (b - q * 2 ^ rest) = omega (arith, digits) in
-              ap (λ (x : ℕ). x / 2 ^ rest) e ∙ high q rest (omega (arith, last-is, room))
+    -- b comes behind a exactly when b is above it
+    pub last-less : ltb (lastOf a) b ≡ less (strOf a) (strOf b)
+    last-less =
+        iff (λ h. above-less (ltb-true (lastOf a) b h))
+        (λ h. not-false (λ e. clash h (within-not-less (le-of-lt (less-lt most small a b ha hb h)) (ltb-false (lastOf a) b e))))
+
+    -- a word that is not below a's is of a string that extends a exactly when it is not above it
+    pub last-prefix : a ≤ b → leb b (lastOf a) ≡ prefix (strOf a) (strOf b)
+    last-prefix l =
+        iff
+        (λ h. not-false (λ p. clash (le-less most small a b ha hb l p) (within-not-less l (leb-true b (lastOf a) h))))
+        (λ p. not-false (λ e. clash p (less-apart (strOf a) (strOf b) (above-less (leb-false b (lastOf a) e)) .0)))
