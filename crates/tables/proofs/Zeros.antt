@@ -1,47 +1,76 @@
--- Two lists of numbers compared one by one, as a loop does it. Assumes nothing.
+-- A record is absent where both counts are 0, and every word: what is asked of numbers one by one is asked of the record. Assumes nothing.
 use mathlib.Core.Path.{_≡_, refl, sym, ap, ap₂, _∙_}
-use mathlib.Core.Bool.{true, false, _&&_}
-use mathlib.Core.List.{List, map}
-use Prim.Native.Nat.{ℕ, _+_, _≤_, _<_}
-use native.Mathlib.Numerals.{add-one}
+use mathlib.Core.Bool.{Bool, true, false, _&&_, and-false}
+use mathlib.Core.List.{List, [], _∷_, map}
+use Prim.Native.Nat.{ℕ}
 use native.Mathlib.Omega.{arith}
-use borrow.Author.Tests.{eq-eqb, ne-eqb}
+use borrow.Author.Tests.{eqb-true, eqb-false, eq-eqb, ne-eqb}
+use lib.Bits.{bitOr, or-add-and, and-le-l, and-le-r}
 use lib.Dec.{eqb}
-use lib.ListN.{length, getD, drop, replicate, drop-of-length-le, length-map, length-replicate, getD-replicate}
-use lib.Seq.{drop-cons}
-use Rattle.rules.specs.Stored.{sameNumbers}
+use lib.ListN.{length, replicate, length-map}
+use Rattle.laws.proofs.Tests.{iff, and-left, and-right, and-both}
+use Rattle.rules.specs.Limits.{narrow}
+use Rattle.rules.specs.Names.{all}
+use Rattle.rules.specs.Stored.{sameNumbers, sameWords, sameRecord, wordsOf, stored, blank, absent}
+use Rattle.rules.specs.declared.Record.{Record}
+use Rattle.rules.specs.declared.Words.{Words}
 
 -- the length of a field that is an array, as `good` gives it
 pub field-length : (ws : List ℕ) {n : ℕ} → length (map {A = ℕ} {B = ℕ} (λ v. v) ws) ≡ n → length ws ≡ n
 field-length ws e = sym (length-map ws (λ (v : ℕ). v)) ∙ e
 
-module _ (xs ys : List ℕ) (i : ℕ) where
-  -- the numbers at i, and those behind them
-  pub same-at : i < length xs → i < length ys
-      → sameNumbers (drop i xs) (drop i ys) ≡ (eqb (getD xs i 0) (getD ys i 0) && sameNumbers (drop (i + 1) xs) (drop (i + 1) ys))
-  unfolding sameNumbers
-  same-at hx hy = ap₂ sameNumbers (drop-cons xs i 0 hx) (drop-cons ys i 0 hy) ∙ rw add-one refl
+-- no bit is set in either exactly when both are 0
+pub or-zero : (a b : ℕ) → eqb (bitOr a b) 0 ≡ (eqb a 0 && eqb 0 b)
+or-zero a b =
+    iff
+    (λ h.
+    let e = eqb-true (bitOr a b) 0 h in
+    and-both (eq-eqb a 0 (omega (arith, or-add-and a b, and-le-l a b, and-le-r a b))) (eq-eqb 0 b (omega (arith, or-add-and a b, and-le-l a b, and-le-r a b))))
+    (λ h.
+    let p = eqb-true a 0 (and-left (eqb a 0) (eqb 0 b) h) in
+    let q = eqb-true 0 b (and-right (eqb a 0) (eqb 0 b) h) in
+    eq-eqb (bitOr a b) 0 (omega (arith, or-add-and a b)))
 
-  -- behind the last of both nothing differs
-  pub same-end : length xs ≤ i → length ys ≤ i → sameNumbers (drop i xs) (drop i ys) ≡ true
-  unfolding sameNumbers
-  same-end hx hy = ap₂ sameNumbers (drop-of-length-le xs {i = i} hx) (drop-of-length-le ys {i = i} hy)
+eqb-turned : (a b : ℕ) → eqb a b ≡ eqb b a
+eqb-turned a b = by (eqb b a) refl
+  where
+    by : (c : Bool) → eqb b a ≡ c → eqb a b ≡ c
+    by true e = eq-eqb a b (sym (eqb-true b a e))
+    by false e = ne-eqb a b (λ h. eqb-false b a e (sym h))
 
--- against zeros
-module _ (n : ℕ) (ws : List ℕ) (fits : length ws ≡ n) (i : ℕ) where
-  abbrev zs : List ℕ
-  zs = replicate n 0
+-- against as many zeros
+zeros-all : (ws : List ℕ) → sameNumbers ws (replicate (length ws) 0) ≡ all (eqb 0) ws
+unfolding sameNumbers all
+zeros-all [] = refl
+zeros-all (x ∷ ws) = ap₂ (λ (a b : Bool). a && b) (eqb-turned x 0) (zeros-all ws)
 
-  zero-at : i < n → sameNumbers (drop i ws) (drop i zs) ≡ (eqb (getD ws i 0) 0 && sameNumbers (drop (i + 1) ws) (drop (i + 1) zs))
-  zero-at h =
-      same-at ws zs i (omega arith) (omega (arith, length-replicate {A = ℕ} n 0))
-      ∙ ap (λ (z : ℕ). eqb (getD ws i 0) z && sameNumbers (drop (i + 1) ws) (drop (i + 1) zs)) (getD-replicate n i 0 0 h)
+zeros-are : (ws : List ℕ) → length ws ≡ 16 → sameNumbers ws (replicate 16 0) ≡ all (eqb 0) ws
+zeros-are ws e = ap (λ (n : ℕ). sameNumbers ws (replicate n 0)) (sym e) ∙ zeros-all ws
 
-  pub zero-more : i < n → getD ws i 0 ≡ 0 → sameNumbers (drop i ws) (drop i zs) ≡ sameNumbers (drop (i + 1) ws) (drop (i + 1) zs)
-  zero-more h e = zero-at h ∙ rw (eq-eqb (getD ws i 0) 0 e) refl
+name-zeros : (w : Words) → length (w .words) ≡ 16 → sameWords w (wordsOf narrow []) ≡ (eqb (w .count) 0 && all (eqb 0) (w .words))
+unfolding sameWords wordsOf
+name-zeros w e = ap (λ (b : Bool). eqb (w .count) 0 && b) (zeros-are (w .words) e)
 
-  pub zero-stop : i < n → (getD ws i 0 ≡ 0 → ⊥) → sameNumbers (drop i ws) (drop i zs) ≡ false
-  zero-stop h e = zero-at h ∙ rw (ne-eqb (getD ws i 0) 0 e) refl
+module _ (r : Record) (u : length (r .update .words) ≡ 16) (i : length (r .id .words) ≡ 16) where
+  absent-is : absent narrow r ≡ ((eqb (r .update .count) 0 && all (eqb 0) (r .update .words)) && (eqb (r .id .count) 0 && all (eqb 0) (r .id .words)))
+  unfolding absent blank stored sameRecord
+  absent-is = ap₂ (λ (a b : Bool). a && b) (name-zeros (r .update) u) (name-zeros (r .id) i)
 
-  pub zero-end : n ≤ i → sameNumbers (drop i ws) (drop i zs) ≡ true
-  zero-end h = same-end ws zs i (omega arith) (omega (arith, length-replicate {A = ℕ} n 0))
+  -- a count that is not 0
+  pub some-update : (r .update .count ≡ 0 → ⊥) → absent narrow r ≡ false
+  some-update h =
+      absent-is
+      ∙ ap (λ (b : Bool). (b && all (eqb 0) (r .update .words)) && (eqb (r .id .count) 0 && all (eqb 0) (r .id .words))) (ne-eqb (r .update .count) 0 h)
+
+  pub some-id : (r .id .count ≡ 0 → ⊥) → absent narrow r ≡ false
+  some-id h =
+      absent-is
+      ∙ ap (λ (b : Bool). (eqb (r .update .count) 0 && all (eqb 0) (r .update .words)) && (b && all (eqb 0) (r .id .words))) (ne-eqb (r .id .count) 0 h)
+      ∙ and-false (eqb (r .update .count) 0 && all (eqb 0) (r .update .words))
+
+  -- both are 0: the words decide
+  pub no-counts : r .update .count ≡ 0 → r .id .count ≡ 0 → absent narrow r ≡ (all (eqb 0) (r .update .words) && all (eqb 0) (r .id .words))
+  no-counts h k =
+      absent-is
+      ∙ ap₂ (λ (a b : Bool). (a && all (eqb 0) (r .update .words)) && (b && all (eqb 0) (r .id .words))) (eq-eqb (r .update .count) 0 h)
+      (eq-eqb (r .id .count) 0 k)

@@ -4,10 +4,12 @@
 ghost use mathlib.Core.Path.{_≡_};
 ghost use mathlib.Core.List.{[]};
 ghost use Prim.Native.Nat.{_≤_};
+ghost use lib.Dec.{eqb};
 ghost use Rattle.rules.specs.Limits.{narrow};
+ghost use Rattle.rules.specs.Names.{all};
 ghost use Rattle.rules.specs.Packed.{comparedNumber};
 ghost use Rattle.rules.specs.Refusals.{first};
-ghost use Rattle.rules.specs.Stored.{sameWords, wordsOf, absent};
+ghost use Rattle.rules.specs.Stored.{absent};
 ghost use Rattle.rules.specs.Tables.{slotNumber, sparedNumber, makeFresh, updateAt, forkAt, joinAt, compareAt, spareAt};
 ghost use Rattle.tables.specs.Gates.{gateCode, roomOf, roomCode, freshSlot, zeros};
 ghost use Rattle.tables.specs.Rules.{codeOf, tableCode, atTable, answerCode, oneOf, twoOf, fullCode, slotTests, pairTests};
@@ -281,7 +283,17 @@ fn compare_rule(a: usize, b: usize, s: Record, u: Record) -> u64
     if is_absent(u) {
         return 1003;
     }
-    table_code(compared_code(stamps::compare(s, u)))
+    let c = stamps::compare_in(
+        &s.update.words,
+        s.update.count,
+        &s.id.words,
+        s.id.count,
+        &u.update.words,
+        u.update.count,
+        &u.id.words,
+        u.id.count,
+    );
+    table_code(compared_code(c))
 }
 
 // The lowest absent slot; a where none is.
@@ -464,33 +476,33 @@ fn is_obsolete(v: Verdict) -> u64
     }
 }
 
-// Whether there is no copy in the record.
+// Whether there is no copy in the record: it is all zeros.
 fn is_absent(r: Record) -> bool
     ensures { λ b. ⌜ b ≡ absent narrow r ⌝ }
 {
-    let u = r.update;
-    let i = r.id;
-    if is_zeros(u) {
-        return is_zeros(i);
+    if r.update.count != 0 {
+        return false;
+    }
+    if r.id.count != 0 {
+        return false;
+    }
+    if is_zeros(&r.update.words) {
+        return is_zeros(&r.id.words);
     }
     false
 }
 
-// Whether the name's record is all zeros.
-fn is_zeros(n: Words) -> bool
-    ensures { λ r. ⌜ r ≡ sameWords n (wordsOf narrow []) ⌝ }
+// Whether the words are all zeros: no bit is set in any of them.
+fn is_zeros(w: &[u64]) -> bool
+    ensures { λ r. ⌜ r ≡ all (eqb 0) (now (w .entry)) ⌝ }
 {
-    if n.count != 0 {
-        return false;
-    }
+    let mut bits = 0;
     let mut i = 0;
-    while i < 16 {
-        if n.words[i] != 0 {
-            return false;
-        }
+    while i < w.len() {
+        bits |= w[i];
         i += 1;
     }
-    true
+    bits == 0
 }
 
 // The record whose two names have c strings, each of them empty.
