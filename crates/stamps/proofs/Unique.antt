@@ -8,7 +8,6 @@ use Rattle.stamps.proofs.update
 use Rattle.stamps.proofs.fork
 use Rattle.stamps.proofs.meet
 use Rattle.stamps.proofs.compare
-use Rattle.stamps.proofs.compare_in
 
 pub is-lawful-one-answer : OneAnswer is_lawful.ended (λ M 𝓤. is_lawful.clauses 𝓤) (λ M 𝓤. is_lawful.spec 𝓤)
 is-lawful-one-answer M 𝓤 H A mem run = (refl, λ κs a g h r s v w. both-say 𝓤 (λ e f. (agree e f, refl)))
@@ -27,6 +26,3 @@ compare-one-answer M 𝓤 H A mem run = (refl, λ κs a g h r s v w. both-say �
 
 pub is-lawful-in-one-answer : OneAnswer is_lawful_in.ended (λ M 𝓤. is_lawful_in.clauses 𝓤) (λ M 𝓤. is_lawful_in.spec 𝓤)
 is-lawful-in-one-answer M 𝓤 H A mem run = (refl, λ κs a g h r s v w. both-say 𝓤 (λ e f. (agree e f, refl)))
-
-pub compare-in-one-answer : OneAnswer compare_in.ended (λ M 𝓤. compare_in.clauses 𝓤) (λ M 𝓤. compare_in.spec 𝓤)
-compare-in-one-answer M 𝓤 H A mem run = (refl, λ κs a g h r s v w. both-say 𝓤 (λ e f. (agree e f, refl)))

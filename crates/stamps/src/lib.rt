@@ -122,7 +122,7 @@ pub fn compare(a: Record, b: Record) -> Compared
 }
 
 // How the first stamp stands to the second, or what the two are refused for. Of lawful ones the words that are counted tell it.
-pub fn compare_in<'a>(
+fn compare_in<'a>(
     u: &'a [u64],
     uc: usize,
     i: &'a [u64],

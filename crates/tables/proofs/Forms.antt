@@ -62,11 +62,6 @@ first-table (t ∷ ts) = by (t .0) (first-table ts)
 
 -- ---- what is given beside the answer is used where it is accepted
 
-one-given : (r : Answer) (n : ℕ) (s : Record) (x : Stamp)
-    → (let g : Given = given narrow r x in oneOf (atTable (g .answer)) n s (g .stamp)) ≡ oneOf (atTable r) n s (stored narrow x)
-one-given Done n s x = refl
-one-given (Refused r) n s x = refl
-
 two-given : (r : Answer) (n : ℕ) (s u : Record) (x : Stamp) (y : Record)
     → (let g : Given = given narrow r x in twoOf (atTable (g .answer)) n s u (g .stamp) y) ≡ twoOf (atTable r) n s u (stored narrow x) y
 two-given Done n s u x y = refl
@@ -79,14 +74,6 @@ two-branches Done n s u x y = refl
 two-branches (Refused r) n s u x y = refl
 
 -- ---- the calls
-
-pub update-form : (n : ℕ) (s : Record)
-    → (let g : Given = updated narrow s in oneOf (atTable (g .answer)) n s (g .stamp))
-    ≡ oneOf (first ((unlawful narrow s, Unfit) ∷ [])) n s (stored narrow (update (held s)))
-unfolding updated
-update-form n s =
-    one-given (first ((unlawful narrow s, Unlawful) ∷ [])) n s (update (held s))
-    ∙ ap (λ (r : Answer). oneOf r n s (stored narrow (update (held s)))) (first-table ((unlawful narrow s, Unlawful) ∷ []))
 
 pub fork-form : (n : ℕ) (s u : Record)
     → (let f : Forked = forked narrow s in twoOf (atTable (f .answer)) n s u (f .zero) (f .one))

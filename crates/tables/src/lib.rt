@@ -23,6 +23,7 @@ use rules::Record;
 use rules::Refusal;
 use rules::Verdict;
 use rules::Words;
+use stamps::is_lawful_in;
 
 // A table has at most so many records.
 pub const RECORDS: usize = 32;
@@ -179,10 +180,18 @@ fn update_rule(a: usize, s: Record) -> One
             first: s,
         };
     }
-    let g = stamps::update(s);
-    let answer = g.answer;
-    let x = g.stamp;
-    settle_one(answer, a, s, x)
+    if is_lawful_in(&s.update.words, s.update.count, &s.id.words, s.id.count) {
+        let i = s.id;
+        let x = Record { update: i, id: i };
+        return One {
+            code: a as u64,
+            first: x,
+        };
+    }
+    One {
+        code: 1012,
+        first: s,
+    }
 }
 
 // A copy of slot a in slot b, the lowest that is absent; b is a where none is.
@@ -283,17 +292,7 @@ fn compare_rule(a: usize, b: usize, s: Record, u: Record) -> u64
     if is_absent(u) {
         return 1003;
     }
-    let c = stamps::compare_in(
-        &s.update.words,
-        s.update.count,
-        &s.id.words,
-        s.id.count,
-        &u.update.words,
-        u.update.count,
-        &u.id.words,
-        u.id.count,
-    );
-    table_code(compared_code(c))
+    table_code(compared_code(stamps::compare(s, u)))
 }
 
 // The lowest absent slot; a where none is.
@@ -408,22 +407,6 @@ fn meet_code(m: Record, r: Record) -> u64
     ensures { λ n. ⌜ n ≡ meetCode m r ⌝ }
 {
     table_code(spare_code(stamps::compare(m, r)))
-}
-
-// The record s becomes x, or stays on a refusal.
-fn settle_one(answer: Answer, n: usize, s: Record, x: Record) -> One
-    ensures { λ d. ⌜ d ≡ oneOf (atTable answer) n s x ⌝ }
-{
-    match answer {
-        Answer::Done => One {
-            code: n as u64,
-            first: x,
-        },
-        Answer::Refused(r) => One {
-            code: table_code(refusal_code(r)),
-            first: s,
-        },
-    }
 }
 
 // The records p and q become x and y, or stay on a refusal.
