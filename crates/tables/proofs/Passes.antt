@@ -1,6 +1,6 @@
 -- What a pass over the table answers: the lowest absent slot, and whether slot a's copy may go. Assumes nothing.
 use mathlib.Core.Path.{_≡_, refl, sym, ap, _∙_}
-use mathlib.Core.Bool.{Bool, true, false, cond, not, _||_}
+use mathlib.Core.Bool.{Bool, true, false, cond, _||_}
 use mathlib.Core.List.{[], _∷_}
 use Prim.Native.Nat.{ℕ, zero, suc, _+_, _≤_, _<_}
 use native.Mathlib.Numerals.{add-one}
@@ -15,7 +15,7 @@ use Rattle.rules.specs.Refusals.{first, overlap, unseen}
 use Rattle.rules.specs.Stamps.{compare}
 use Rattle.rules.specs.Stored.{absent, unlawful, isStored, held}
 use Rattle.rules.specs.Tables.{Table, outside, lowest, full, spareFrom, orNext, sparedNumber}
-use Rattle.rules.specs.Values.{told, meeting, compared}
+use Rattle.rules.specs.Values.{told, compared}
 use Rattle.rules.specs.declared.Record.{Record}
 use Rattle.rules.specs.declared.Answer.{Answer}
 use Rattle.rules.specs.declared.Answer.the-variants.{Done, Refused}
@@ -26,11 +26,12 @@ use Rattle.rules.specs.declared.Refusal.the-variants.{Malformed, Unlawful, NoSl
 use Rattle.rules.specs.declared.Spared.{Spared}
 use Rattle.rules.specs.declared.Verdict.{Verdict}
 use Rattle.rules.specs.declared.Verdict.the-variants.{Equal, Obsolete, Newer, Conflict}
+use Rattle.walks.specs.Walks.{front, compareWalk}
+use Rattle.walks.proofs.Meets.{compare-walk}
 use Rattle.tables.specs.declared.Scan.{Scan}
 use Rattle.tables.specs.Gates.{roomOf}
-use Rattle.tables.specs.Rules.{codeOf, tableCode, atTable, answerCode, slotTests}
+use Rattle.tables.specs.Rules.{codeOf, answerCode, slotTests}
 use Rattle.tables.specs.Scans.{found, foundOr, onwardTo, passOf, within, scanOf, seekOf, weighOf, obsoleteNumber, spareCode, meetCode}
-use Rattle.tables.proofs.Forms.{table-code, first-table}
 
 -- ---- any pass
 
@@ -245,25 +246,31 @@ abbrev pairCode : Answer → Verdict → ℕ
 pairCode Done v = obsoleteNumber v
 pairCode (Refused r) v = codeOf r
 
-table-spare : (b : Answer) (v : Verdict) → tableCode (spareCode (told b v)) ≡ pairCode (atTable b) v
-unfolding tableCode
-table-spare Done Equal = refl
-table-spare Done Obsolete = refl
-table-spare Done Newer = refl
-table-spare Done Conflict = refl
-table-spare (Refused r) v = table-code r
+spare-told : (b : Answer) (v : Verdict) → spareCode (told b v) ≡ pairCode b v
+spare-told Done v = refl
+spare-told (Refused r) v = refl
+
+-- of lawful records the walks tell what the rules do
+meet-lawful : (m r : Record) → isStored narrow m ≡ true → isStored narrow r ≡ true
+    → spareCode (compareWalk (front (m .update)) (front (m .id)) (front (r .update)) (front (r .id))) ≡ pairCode (meets m r) (compare (held m) (held r))
+unfolding compared first unlawful
+meet-lawful m r e d =
+    ap spareCode (compare-walk narrow (omega arith) m r e d)
+    ∙ simp (e, d) (spare-told (first ((overlap (held m) (held r), Overlap) ∷ (unseen (held m) (held r), Unseen) ∷ [])) (compare (held m) (held r)))
 
 meet-answer : (m r : Record) → isStored narrow m ≡ true
     → meetCode m r ≡ pairCode (meets m r) (compare (held m) (held r))
-unfolding meetCode compared first unlawful
-meet-answer m r e =
-    table-spare (first (meeting narrow m r [])) (compare (held m) (held r))
-    ∙ ap (λ (b : Answer). pairCode b (compare (held m) (held r))) (first-table (meeting narrow m r []))
-    ∙ ap (λ (b : Bool). pairCode (cond (not b) (Refused Unfit) (meets m r)) (compare (held m) (held r))) e
+unfolding meetCode first unlawful
+meet-answer m r e = by (isStored narrow r) refl
+  where
+    by : (b : Bool) → isStored narrow r ≡ b → meetCode m r ≡ pairCode (meets m r) (compare (held m) (held r))
+    by true d =
+        ap (λ (b : Bool). cond b (spareCode (compareWalk (front (m .update)) (front (m .id)) (front (r .update)) (front (r .id)))) (codeOf Unfit)) d
+        ∙ meet-lawful m r e d
+    by false d = simp d
 
 -- the answer to a pair has few digits
-code-few : (r : Refusal) → tableCode (codeOf r) ≤ 2000
-unfolding tableCode
+code-few : (r : Refusal) → codeOf r ≤ 2000
 code-few Malformed = lit≤ tt
 code-few Unlawful = lit≤ tt
 code-few NoSlot = lit≤ tt
@@ -278,8 +285,7 @@ code-few Unread = lit≤ tt
 code-few Unfit = lit≤ tt
 code-few Ended = lit≤ tt
 
-spare-few : (c : Compared) → tableCode (spareCode c) ≤ 2000
-unfolding tableCode
+spare-few : (c : Compared) → spareCode c ≤ 2000
 spare-few (Is Equal) = lit≤ tt
 spare-few (Is Obsolete) = lit≤ tt
 spare-few (Is Newer) = lit≤ tt
@@ -288,7 +294,14 @@ spare-few (NotCompared r) = code-few r
 
 pub meet-few : (m r : Record) → meetCode m r ≤ 2000
 unfolding meetCode
-meet-few m r = spare-few (compared narrow m r)
+meet-few m r = by (isStored narrow r)
+  where
+    c : Compared
+    c = compareWalk (front (m .update)) (front (m .id)) (front (r .update)) (front (r .id))
+
+    by : (b : Bool) → cond b (spareCode c) (codeOf Unfit) ≤ 2000
+    by true = spare-few c
+    by false = lit≤ tt
 
 pub slot-few : (r : Record) → answerCode (first (slotTests r [])) 0 ≤ 2000
 unfolding first
@@ -324,15 +337,14 @@ module _ (s : Scan) (lawful : isStored narrow (s .mine) ≡ true) where
   weighed k [] h = none-yet k 0 (omega arith)
   weighed k (r ∷ t) h =
       ap (λ (n : ℕ). foundOr n 0) (pass-more (weighOf s) k r t (omega arith) ∙ ap (λ (n : ℕ). passOf (weighOf s) n t) (weigh-is s k r (omega arith)))
+      ∙ ap (λ (n : ℕ). answer (onwardTo (k + 1) (cond (eqb (s .at) k || absent narrow r) 0 n)) t) (meet-answer (s .mine) r lawful)
       ∙ by (eqb (s .at) k || absent narrow r) (weighed (k + 1) t (omega arith) ∙ ap (λ (n : ℕ). sparedNumber (next n t)) (add-one k))
     where
       by : (b : Bool) → answer (k + 1) t ≡ sparedNumber (next (suc k) t)
-          → answer (onwardTo (k + 1) (cond b 0 (meetCode (s .mine) r))) t
+          → answer (onwardTo (k + 1) (cond b 0 (pairCode (meets (s .mine) r) (compare (held (s .mine)) (held r))))) t
           ≡ sparedNumber (cond b (next (suc k) t) (orNext (meets (s .mine) r) (compare (held (s .mine)) (held r)) (next (suc k) t)))
       by true ih = goes-on (k + 1) t (next (suc k) t) Done Equal ih
-      by false ih =
-          ap (λ (n : ℕ). answer (onwardTo (k + 1) n) t) (meet-answer (s .mine) r lawful)
-          ∙ goes-on (k + 1) t (next (suc k) t) (meets (s .mine) r) (compare (held (s .mine)) (held r)) ih
+      by false ih = goes-on (k + 1) t (next (suc k) t) (meets (s .mine) r) (compare (held (s .mine)) (held r)) ih
 
   pub weighed-all : (t : Table) → length t ≤ 32 → foundOr (scanOf (weighOf s) 0 t) 0 ≡ sparedNumber (next 0 t)
   unfolding scanOf

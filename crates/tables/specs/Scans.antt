@@ -5,17 +5,18 @@ use Prim.Native.Nat.{ℕ, _+_, _-_}
 use lib.Dec.{eqb, ltb}
 use lib.ListN.{length, drop}
 use Rattle.rules.specs.Limits.{narrow, records}
-use Rattle.rules.specs.Stored.{absent}
+use Rattle.rules.specs.Stored.{isStored, absent}
 use Rattle.rules.specs.Refusals.{first}
-use Rattle.rules.specs.Values.{compared}
 use Rattle.rules.specs.Tables.{Table}
 use Rattle.rules.specs.declared.Record.{Record}
 use Rattle.rules.specs.declared.Verdict.{Verdict}
 use Rattle.rules.specs.declared.Verdict.the-variants.{Equal, Obsolete, Newer, Conflict}
 use Rattle.rules.specs.declared.Compared.{Compared}
 use Rattle.rules.specs.declared.Compared.the-variants.{Is, Refused as NotCompared}
+use Rattle.rules.specs.declared.Refusal.the-variants.{Unfit}
+use Rattle.walks.specs.Walks.{front, compareWalk}
 use Rattle.tables.specs.declared.Scan.{Scan}
-use Rattle.tables.specs.Rules.{codeOf, tableCode, answerCode, slotTests}
+use Rattle.tables.specs.Rules.{codeOf, answerCode, slotTests}
 
 abbrev pub found : ℕ
 found = 1000
@@ -60,8 +61,10 @@ abbrev pub spareCode : Compared → ℕ
 spareCode (Is v) = obsoleteNumber v
 spareCode (NotCompared r) = codeOf r
 
+-- m is lawful: what its words and those of a lawful record tell
 unfoldable pub meetCode : Record → Record → ℕ
-meetCode m r = tableCode (spareCode (compared narrow m r))
+meetCode m r =
+    cond (isStored narrow r) (spareCode (compareWalk (front (m .update)) (front (m .id)) (front (r .update)) (front (r .id)))) (codeOf Unfit)
 
 -- slot `at` itself and absent ones are passed over
 unfoldable pub weighOf : Scan → ℕ → Record → ℕ

@@ -5,12 +5,14 @@ ghost use mathlib.Core.Path.{_≡_};
 ghost use mathlib.Core.List.{[]};
 ghost use Prim.Native.Nat.{_≤_};
 ghost use lib.Dec.{eqb};
+ghost use lib.ListN.{take};
 ghost use Rattle.rules.specs.Limits.{narrow};
 ghost use Rattle.rules.specs.Names.{all};
 ghost use Rattle.rules.specs.Packed.{comparedNumber};
 ghost use Rattle.rules.specs.Refusals.{first};
 ghost use Rattle.rules.specs.Stored.{absent};
 ghost use Rattle.rules.specs.Tables.{slotNumber, sparedNumber, makeFresh, updateAt, forkAt, joinAt, compareAt, spareAt};
+ghost use Rattle.walks.specs.Walks.{compareWalk};
 ghost use Rattle.tables.specs.Gates.{gateCode, roomOf, roomCode, freshSlot, zeros};
 ghost use Rattle.tables.specs.Rules.{codeOf, tableCode, atTable, answerCode, oneOf, twoOf, fullCode, slotTests, pairTests};
 ghost use Rattle.tables.specs.Rules.{updateRule, forkRule, joinRule, compareRule, forkCode, forkList};
@@ -402,11 +404,55 @@ fn slot_code(r: Record) -> u64
     1012
 }
 
-// What m is told beside r: 1 where it may go, 0 where it is kept, or the refusal.
+// What m, which is lawful, is told beside r: 1 where it may go, 0 where it is kept, or the refusal.
 fn meet_code(m: Record, r: Record) -> u64
     ensures { λ n. ⌜ n ≡ meetCode m r ⌝ }
 {
-    table_code(spare_code(stamps::compare(m, r)))
+    if stamps::is_lawful(r) {
+        let c = compare_in(
+            &m.update.words,
+            m.update.count,
+            &m.id.words,
+            m.id.count,
+            &r.update.words,
+            r.update.count,
+            &r.id.words,
+            r.id.count,
+        );
+        return spare_code(c);
+    }
+    1012
+}
+
+// How a stamp stands to a second, by the words that are counted: u and v of updates, i and j of ids.
+fn compare_in<'a>(
+    u: &'a [u64],
+    uc: usize,
+    i: &'a [u64],
+    ic: usize,
+    v: &'a [u64],
+    vc: usize,
+    j: &'a [u64],
+    jc: usize,
+) -> Compared
+    ensures { λ r. ⌜ r ≡ compareWalk (take uc (now (u .entry))) (take ic (now (i .entry))) (take vc (now (v .entry))) (take jc (now (j .entry))) ⌝ }
+{
+    walks::compare(
+        counted(u, uc),
+        counted(i, ic),
+        counted(v, vc),
+        counted(j, jc),
+    )
+}
+
+// The words of a name that its record counts.
+fn counted(w: &[u64], c: usize) -> &[u64]
+    ensures { λ r. ⌜ now r ≡ take c (now (w .entry)) ⌝ }
+{
+    if w.len() < c {
+        return w;
+    }
+    &w[..c]
 }
 
 // The records p and q become x and y, or stay on a refusal.
