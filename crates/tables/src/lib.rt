@@ -408,7 +408,7 @@ fn slot_code(r: Record) -> u64
 fn meet_code(m: Record, r: Record) -> u64
     ensures { λ n. ⌜ n ≡ meetCode m r ⌝ }
 {
-    if stamps::is_lawful(r) {
+    if is_lawful_in(&r.update.words, r.update.count, &r.id.words, r.id.count) {
         let c = compare_in(
             &m.update.words,
             m.update.count,

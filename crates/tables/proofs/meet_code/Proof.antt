@@ -5,8 +5,8 @@ use borrow.Author.Needs.{needs}
 use Rattle.tables.proofs.meet_code.Statement.{statement}
 use Rattle.tables.proofs.meet_code.Tie as tie
 
-is-lawful-requires : tie.Need-is-lawful-requires
-is-lawful-requires c κs = search needs
+is-lawful-in-requires : tie.Need-is-lawful-in-requires
+is-lawful-in-requires c κs = search needs
 
 compare-in-requires : tie.Need-compare-in-requires
 compare-in-requires c κs = search needs
@@ -19,14 +19,14 @@ unfolding meetCode
 returns c =
     let k = c .before in
     let l = k .before .before .before .before .before .before .before .before .before .before .before in
-    simp (sym (l .before .is-lawful .ensures) ∙ l .if1 .taken)
+    simp (sym (l .before .is-lawful-in .ensures) ∙ l .if1 .taken)
     (c .spare-code .ensures ∙ ap spareCode (k .compare-in .ensures))
 
 returns-2 : tie.Need-returns-2
 unfolding meetCode
-returns-2 c = simp (sym (c .before .is-lawful .ensures) ∙ c .if1 .left)
+returns-2 c = simp (sym (c .before .is-lawful-in .ensures) ∙ c .if1 .left)
 
 pub meet-code-spec : {M : Type 1} → statement M
 meet-code-spec =
     tie.close
-    (tie.spec is-lawful-requires compare-in-requires spare-code-requires returns returns-2)
+    (tie.spec is-lawful-in-requires compare-in-requires spare-code-requires returns returns-2)
