@@ -31,7 +31,7 @@ use Rattle.walks.proofs.Meets.{compare-walk}
 use Rattle.tables.specs.declared.Scan.{Scan}
 use Rattle.tables.specs.Gates.{roomOf}
 use Rattle.tables.specs.Rules.{codeOf, answerCode, slotTests}
-use Rattle.tables.specs.Scans.{found, foundOr, onwardTo, passOf, within, scanOf, seekOf, weighOf, obsoleteNumber, spareCode, meetCode}
+use Rattle.tables.specs.Scans.{found, foundOr, onwardTo, passOf, within, scanOf, seekOf, weighed, weighOf, obsoleteNumber, spareCode, meetCode}
 
 -- ---- any pass
 
@@ -224,7 +224,7 @@ lowest-absent (r ∷ t) f = by (absent narrow r) refl (lowest-absent t)
 -- ---- a copy that makes slot a's obsolete
 
 pub weigh-goes : (s : Scan) → Goes (weighOf s)
-unfolding weighOf onwardTo
+unfolding weighed onwardTo
 weigh-goes s k r h =
     let n = cond (eqb (s .at) k || absent narrow r) 0 (meetCode (s .mine) r) in
     simp (lt-ltb k records h) (by n (eqb n 0))
@@ -235,7 +235,7 @@ weigh-goes s k r h =
 
 weigh-is : (s : Scan) (k : ℕ) (r : Record) → k < 32
     → weighOf s k r ≡ onwardTo (k + 1) (cond (eqb (s .at) k || absent narrow r) 0 (meetCode (s .mine) r))
-unfolding weighOf
+unfolding weighed
 weigh-is s k r h = simp (lt-ltb k records h)
 
 abbrev meets : Record → Record → Answer
@@ -332,13 +332,13 @@ module _ (s : Scan) (lawful : isStored narrow (s .mine) ≡ true) where
   goes-on k t x Done Obsolete h = found-answer 1 t
   goes-on k t x (Refused r) v h = simp (ne-eqb (codeOf r) 0 (λ z. omega arith)) (found-answer (codeOf r) t)
 
-  weighed : (k : ℕ) (t : Table) → k + length t ≤ 32 → answer k t ≡ sparedNumber (next k t)
+  weighed-from : (k : ℕ) (t : Table) → k + length t ≤ 32 → answer k t ≡ sparedNumber (next k t)
   unfolding passOf spareFrom
-  weighed k [] h = none-yet k 0 (omega arith)
-  weighed k (r ∷ t) h =
+  weighed-from k [] h = none-yet k 0 (omega arith)
+  weighed-from k (r ∷ t) h =
       ap (λ (n : ℕ). foundOr n 0) (pass-more (weighOf s) k r t (omega arith) ∙ ap (λ (n : ℕ). passOf (weighOf s) n t) (weigh-is s k r (omega arith)))
       ∙ ap (λ (n : ℕ). answer (onwardTo (k + 1) (cond (eqb (s .at) k || absent narrow r) 0 n)) t) (meet-answer (s .mine) r lawful)
-      ∙ by (eqb (s .at) k || absent narrow r) (weighed (k + 1) t (omega arith) ∙ ap (λ (n : ℕ). sparedNumber (next n t)) (add-one k))
+      ∙ by (eqb (s .at) k || absent narrow r) (weighed-from (k + 1) t (omega arith) ∙ ap (λ (n : ℕ). sparedNumber (next n t)) (add-one k))
     where
       by : (b : Bool) → answer (k + 1) t ≡ sparedNumber (next (suc k) t)
           → answer (onwardTo (k + 1) (cond b 0 (pairCode (meets (s .mine) r) (compare (held (s .mine)) (held r))))) t
@@ -348,4 +348,4 @@ module _ (s : Scan) (lawful : isStored narrow (s .mine) ≡ true) where
 
   pub weighed-all : (t : Table) → length t ≤ 32 → foundOr (scanOf (weighOf s) 0 t) 0 ≡ sparedNumber (next 0 t)
   unfolding scanOf
-  weighed-all t h = ap (λ (u : Table). answer 0 (drop 0 u)) (within-few t h) ∙ weighed 0 t (omega arith)
+  weighed-all t h = ap (λ (u : Table). answer 0 (drop 0 u)) (within-few t h) ∙ weighed-from 0 t (omega arith)

@@ -1,5 +1,5 @@
 -- Passes over the table, for fork and for spare. Where one stands is a number: the slot that comes next, or, past every slot, `found` and what was found.
-use mathlib.Core.Bool.{cond, _||_}
+use mathlib.Core.Bool.{Bool, cond, _||_}
 use mathlib.Core.List.{[], _∷_}
 use Prim.Native.Nat.{ℕ, _+_, _-_}
 use lib.Dec.{eqb, ltb}
@@ -67,8 +67,11 @@ meetCode m r =
     cond (isStored narrow r) (spareCode (compareWalk (front (m .update)) (front (m .id)) (front (r .update)) (front (r .id)))) (codeOf Unfit)
 
 -- slot `at` itself and absent ones are passed over
-unfoldable pub weighOf : Scan → ℕ → Record → ℕ
-weighOf s k r = cond (ltb k records) (onwardTo (k + 1) (cond (eqb (s .at) k || absent narrow r) 0 (meetCode (s .mine) r))) k
+unfoldable pub weighed : Scan → ℕ → Record → Bool → ℕ
+weighed s k r gone = cond (ltb k records) (onwardTo (k + 1) (cond (eqb (s .at) k || gone) 0 (meetCode (s .mine) r))) k
+
+abbrev pub weighOf : Scan → ℕ → Record → ℕ
+weighOf s k r = weighed s k r (absent narrow r)
 
 -- from the first slot on; answered where slot a's own record is refused
 unfoldable pub weighStart : ℕ → Record → Scan

@@ -16,7 +16,7 @@ ghost use Rattle.walks.specs.Walks.{compareWalk};
 ghost use Rattle.tables.specs.Gates.{gateCode, roomOf, roomCode, freshSlot, zeros};
 ghost use Rattle.tables.specs.Rules.{codeOf, tableCode, atTable, answerCode, oneOf, twoOf, fullCode, slotTests, pairTests};
 ghost use Rattle.tables.specs.Rules.{updateRule, forkRule, joinRule, compareRule, forkCode, forkList};
-ghost use Rattle.tables.specs.Scans.{scanOf, seekOf, weighOf, weighStart, onwardTo, foundOr, obsoleteNumber, spareCode, meetCode};
+ghost use Rattle.tables.specs.Scans.{scanOf, seekOf, weighed, weighOf, weighStart, onwardTo, foundOr, obsoleteNumber, spareCode, meetCode};
 use answers::compared_code;
 use answers::refusal_code;
 use rules::Answer;
@@ -329,7 +329,7 @@ fn weigh_all(t: &[Record], s: Scan) -> u64
     let n = room(t.len());
     let mut k = s.from;
     while k < n {
-        k = weigh(s, k, t[k]);
+        k = weigh(s, k, t[k], is_absent(t[k]));
     }
     found_code(k)
 }
@@ -347,8 +347,8 @@ fn weigh_start(a: usize, r: Record) -> Scan
 }
 
 // Slot k's record beside that of the search: the next slot, or FOUND and the answer. The slot itself and absent ones are passed over.
-fn weigh(s: Scan, k: usize, r: Record) -> usize
-    ensures { λ n. ⌜ n ≡ weighOf s k r ⌝ }
+fn weigh(s: Scan, k: usize, r: Record, absent: bool) -> usize
+    ensures { λ n. ⌜ n ≡ weighed s k r absent ⌝ }
 {
     let at = s.at;
     if RECORDS <= k {
@@ -357,7 +357,7 @@ fn weigh(s: Scan, k: usize, r: Record) -> usize
     if at == k {
         return k + 1;
     }
-    if is_absent(r) {
+    if absent {
         return k + 1;
     }
     onward(k + 1, meet_code(s.mine, r))

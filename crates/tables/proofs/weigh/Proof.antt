@@ -3,37 +3,33 @@ use mathlib.Core.Path.{sym, ap, subst, _∙_}
 use Prim.Native.Nat.{ℕ, _+_, _≤_}
 use native.Mathlib.Omega.{arith}
 use borrow.Author.Tests.{lt-ltb, le-ltb, eq-eqb, ne-eqb}
-use Rattle.tables.specs.Scans.{weighOf, onwardTo}
+use Rattle.tables.specs.Scans.{weighed, onwardTo}
 use Rattle.tables.proofs.Passes.{meet-few}
 use borrow.Author.Needs.{needs}
 use Rattle.tables.proofs.weigh.Statement.{statement}
 use Rattle.tables.proofs.weigh.Tie as tie
 
 returns : tie.Need-returns
-unfolding weighOf
+unfolding weighed
 returns c = simp (le-ltb (c .before .args .k) 32 (omega arith))
 
 add-result : tie.Need-add-result
 add-result c = search needs
 
 returns-2 : tie.Need-returns-2
-unfolding weighOf onwardTo
+unfolding weighed onwardTo
 returns-2 c =
     let g = c .before .before .args in
     simp (lt-ltb (g .k) 32 (omega arith), eq-eqb (g .s .at) (g .k) (omega arith))
-
-is-absent-requires : tie.Need-is-absent-requires
-is-absent-requires c κs = search needs
 
 add-result-2 : tie.Need-add-result-2
 add-result-2 c = search needs
 
 returns-3 : tie.Need-returns-3
-unfolding weighOf onwardTo
+unfolding weighed onwardTo
 returns-3 c =
-    let a = c .before in
-    let g = a .before .before .before .args in
-    simp (lt-ltb (g .k) 32 (omega arith), ne-eqb (g .s .at) (g .k) (λ e. omega arith), sym (a .is-absent .ensures) ∙ c .if3 .taken)
+    let g = c .before .before .before .args in
+    simp (lt-ltb (g .k) 32 (omega arith), ne-eqb (g .s .at) (g .k) (λ e. omega arith), c .if3 .taken)
 
 add-onward : tie.Need-add-onward
 add-onward c = search needs
@@ -45,13 +41,12 @@ onward-requires : tie.Need-onward-requires
 onward-requires c κs = subst (λ (n : ℕ). n ≤ 2000) (sym (c .meet-code .ensures)) (meet-few _ _)
 
 returns-4 : tie.Need-returns-4
-unfolding weighOf
+unfolding weighed
 returns-4 c =
     let m = c .before in
     let k = m .before in
-    let a = k .before in
-    let g = a .before .before .before .args in
-    simp (lt-ltb (g .k) 32 (omega arith), ne-eqb (g .s .at) (g .k) (λ e. omega arith), sym (a .is-absent .ensures) ∙ k .if3 .left)
+    let g = k .before .before .before .args in
+    simp (lt-ltb (g .k) 32 (omega arith), ne-eqb (g .s .at) (g .k) (λ e. omega arith), k .if3 .left)
     (c .onward .ensures ∙ ap (onwardTo (g .k + 1)) (m .meet-code .ensures))
 
 pub weigh-spec : {M : Type 1} → statement M
@@ -61,7 +56,6 @@ weigh-spec =
     returns
     add-result
     returns-2
-    is-absent-requires
     add-result-2
     returns-3
     add-onward
