@@ -14,7 +14,7 @@ ghost use Rattle.rules.specs.Stored.{absent};
 ghost use Rattle.rules.specs.Tables.{slotNumber, sparedNumber, makeFresh, updateAt, forkAt, joinAt, compareAt, spareAt};
 ghost use Rattle.walks.specs.Walks.{compareWalk};
 ghost use Rattle.tables.specs.Gates.{gateCode, roomOf, roomCode, freshSlot, zeros};
-ghost use Rattle.tables.specs.Rules.{codeOf, tableCode, atTable, answerCode, oneOf, twoOf, fullCode, slotTests, pairTests};
+ghost use Rattle.tables.specs.Rules.{tableCode, answerCode, fullCode, slotTests, pairTests};
 ghost use Rattle.tables.specs.Rules.{updateRule, forkRule, joinRule, compareRule, forkCode, forkList};
 ghost use Rattle.tables.specs.Scans.{scanOf, seekOf, weighed, weighOf, weighStart, onwardTo, foundOr, obsoleteNumber, spareCode, meetCode};
 use answers::compared_code;
@@ -22,7 +22,6 @@ use answers::refusal_code;
 use rules::Answer;
 use rules::Compared;
 use rules::Record;
-use rules::Refusal;
 use rules::Verdict;
 use rules::Words;
 use stamps::is_lawful_in;
@@ -184,10 +183,10 @@ fn update_rule(a: usize, s: Record) -> One
     }
     if is_lawful_in(&s.update.words, s.update.count, &s.id.words, s.id.count) {
         let i = s.id;
-        let x = Record { update: i, id: i };
+        let edited = Record { update: i, id: i };
         return One {
             code: a as u64,
-            first: x,
+            first: edited,
         };
     }
     One {
@@ -231,9 +230,20 @@ fn fork_rule(a: usize, b: usize, s: Record, u: Record) -> Two
     }
     let f = stamps::fork(s);
     let answer = f.answer;
-    let x = f.zero;
-    let y = f.one;
-    settle_two(answer, b, s, u, x, y)
+    let zero = f.zero;
+    let one = f.one;
+    match answer {
+        Answer::Done => Two {
+            code: b as u64,
+            first: zero,
+            second: one,
+        },
+        Answer::Refused(r) => Two {
+            code: table_code(refusal_code(r)),
+            first: s,
+            second: u,
+        },
+    }
 }
 
 // What a fork of the record is refused for where no slot is absent.
@@ -260,9 +270,20 @@ fn join_rule(a: usize, b: usize, s: Record, u: Record) -> Two
     }
     let g = joins::join(s, u);
     let answer = g.answer;
-    let x = g.stamp;
+    let joined = g.stamp;
     let none = empties(0);
-    settle_two(answer, a, s, u, x, none)
+    match answer {
+        Answer::Done => Two {
+            code: a as u64,
+            first: joined,
+            second: none,
+        },
+        Answer::Refused(r) => Two {
+            code: table_code(refusal_code(r)),
+            first: s,
+            second: u,
+        },
+    }
 }
 
 // What is asked of two slots' records before they are joined: 0, or the refusal.
@@ -322,7 +343,7 @@ fn seek(k: usize, r: Record) -> usize
     k + 1
 }
 
-// What the search answers: 0 kept, 1 spare, or the refusal.
+// What the search answers: 0 kept, 1 spare, or the refusal. Absence is asked apart, so that no absent record is copied.
 fn weigh_all(t: &[Record], s: Scan) -> u64
     ensures { λ r. ⌜ r ≡ foundOr (scanOf (weighOf s) (s .from) (now (t .entry))) 0 ⌝ }
 {
@@ -453,24 +474,6 @@ fn counted(w: &[u64], c: usize) -> &[u64]
         return w;
     }
     &w[..c]
-}
-
-// The records p and q become x and y, or stay on a refusal.
-fn settle_two(answer: Answer, n: usize, p: Record, q: Record, x: Record, y: Record) -> Two
-    ensures { λ d. ⌜ d ≡ twoOf (atTable answer) n p q x y ⌝ }
-{
-    match answer {
-        Answer::Done => Two {
-            code: n as u64,
-            first: x,
-            second: y,
-        },
-        Answer::Refused(r) => Two {
-            code: table_code(refusal_code(r)),
-            first: p,
-            second: q,
-        },
-    }
 }
 
 // A number at the table: what a rule by value refuses as unlawful, 2, is 12 here.
