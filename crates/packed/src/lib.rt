@@ -141,23 +141,23 @@ pub fn write_both(update: &[u64], x: &[u64], y: &[u64], zero: &mut [u8], one: &m
         × (now (zero .exit) ≡ writtenBoth narrow (now (update .entry)) (now (x .entry)) (now (y .entry)) (now (zero .entry)) (now (one .entry)) .zero)
         × (now (one .exit) ≡ writtenBoth narrow (now (update .entry)) (now (x .entry)) (now (y .entry)) (now (zero .entry)) (now (one .entry)) .one) ⌝ }
 {
-    let m = size_of(update, x);
-    let n = size_of(update, y);
-    if m == 0 {
+    let p = size_of(update, x);
+    let q = size_of(update, y);
+    if p == 0 {
         return Written::Refused(Refusal::Unlawful);
     }
-    if n == 0 {
+    if q == 0 {
         return Written::Refused(Refusal::Unlawful);
     }
-    if zero.len() < m {
+    if zero.len() < p {
         return Written::Refused(Refusal::Short);
     }
-    if one.len() < n {
+    if one.len() < q {
         return Written::Refused(Refusal::Short);
     }
     put_stamp(zero, update, x);
     put_stamp(one, update, y);
-    Written::Bytes(m)
+    Written::Bytes(p)
 }
 
 // How many bytes two names in words take; 0 where they cannot be laid out.
