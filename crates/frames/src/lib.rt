@@ -1,0 +1,1 @@
+// No code: the steps of proofs/ are what this crate is for.

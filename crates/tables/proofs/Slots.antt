@@ -1,0 +1,29 @@
+-- The plain types of the table's walks, and the gate. Assumes nothing.
+use mathlib.Core.Path.{refl}
+use mathlib.Core.List.{[], _∷_}
+use Prim.Native.Nat.{ℕ}
+use Rattle.rules.proofs.Record as T
+use Rattle.rules.proofs.Record.Laws as T′
+use Rattle.tables.specs.Gates.{gateCode}
+use Rattle.tables.proofs.One as O
+use Rattle.tables.proofs.One.Laws as O′
+use Rattle.tables.proofs.Two as D
+use Rattle.tables.proofs.Two.Laws as D′
+use Rattle.tables.proofs.Scan as S
+use Rattle.tables.proofs.Scan.Laws as S′
+use Rattle.frames.proofs.Rows.{Plainly, number, struct, Ins}
+
+abbrev pub item : Plainly
+item = struct T.the-type T′.the-laws T′.the-plain T′.the-copy refl tt
+
+abbrev pub one : Plainly
+one = struct O.the-type O′.the-laws O′.the-plain O′.the-copy refl tt
+
+abbrev pub two : Plainly
+two = struct D.the-type D′.the-laws D′.the-plain D′.the-copy refl tt
+
+abbrev pub scan : Plainly
+scan = struct S.the-type S′.the-laws S′.the-plain S′.the-copy refl tt
+
+abbrev pub gateOf : Ins 0 tt (number ∷ number ∷ number ∷ []) → ℕ
+gateOf a = gateCode (a .0) (a .1 .0) (a .1 .1 .0)
