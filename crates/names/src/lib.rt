@@ -88,6 +88,9 @@ fn is_zero_from(w: &[u64], c: usize) -> bool
     bits == 0
 }
 
+// The union of two names has at most so many strings.
+pub const UNION: usize = 32;
+
 // The words that are counted, in their place: all where there are no more.
 pub fn counted(w: &[u64], c: usize) -> &[u64]
     ensures { λ r. ⌜ countedIs c (w .entry) r ⌝ }

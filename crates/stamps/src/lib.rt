@@ -6,7 +6,6 @@ ghost use Rattle.rules.specs.Stored.{blank, isStored};
 ghost use Rattle.rules.specs.Refusals.{first};
 ghost use Rattle.rules.specs.Values.{updated, forked, compared, meeting};
 ghost use Rattle.rules.specs.declared.Answer.the-variants.{Refused};
-ghost use Rattle.stamps.specs.Lent.{stamp};
 use names::counted;
 use names::grow;
 use names::is_name_in;
@@ -40,7 +39,7 @@ pub fn is_lawful(r: Record) -> bool
 
 // Whether the two names are a lawful stamp.
 pub fn is_lawful_in<'a>(u: &'a [u64], uc: usize, i: &'a [u64], ic: usize) -> bool
-    ensures { λ b. ⌜ b ≡ isStored narrow (stamp uc (now (u .entry)) ic (now (i .entry))) ⌝ }
+    ensures { λ b. ⌜ b ≡ isStored narrow (record { update = record { count = uc; words = now (u .entry) }; id = record { count = ic; words = now (i .entry) } }) ⌝ }
 {
     if is_name_in(u, uc) {
         if is_name_in(i, ic) {

@@ -1,51 +1,78 @@
+-- `stamps::compare` meets its contract: an unlawful stamp is refused, and of lawful ones the counted words tell the rest. Assumes nothing.
 use borrow.Author.Needs.{needs}
+use borrow.Author.Tests.{not-true, not-false}
+use mathlib.Core.Path.{_≡_, sym, ap, _∙_}
+use mathlib.Core.List.{[]}
+use native.Mathlib.Omega.{arith}
+use Rattle.rules.specs.Limits.{narrow}
+use Rattle.rules.specs.Stored.{held}
+use Rattle.rules.specs.Refusals.{first}
+use Rattle.rules.specs.Values.{told, meeting, compared}
+use Rattle.rules.specs.declared.Record.{Record}
+use Rattle.rules.specs.declared.Refusal.the-variants.{Unlawful}
+use Rattle.rules.specs.declared.Answer.{Answer}
+use Rattle.rules.specs.declared.Answer.the-variants.{Refused}
+use Rattle.rules.specs.declared.Compared.the-variants.{Refused as NotCompared}
+use Rattle.walks.specs.Walks.{compareWalk}
+use Rattle.walks.proofs.Meets.{compare-walk}
+use Rattle.stamps.proofs.Laws.{first-unlawful, second-unlawful}
 use Rattle.stamps.proofs.compare.Statement.{statement}
 use Rattle.stamps.proofs.compare.Tie as tie
-use Rattle.stamps.proofs.compare.Reads as reads
-use Rattle.stamps.proofs.compare.Lts as lts
-use Rattle.names.proofs.counted.Reads as counted-reads
-use Rattle.stamps.proofs.is_lawful_in.Reads as is-lawful-in-reads
-use Rattle.walks.proofs.compare.Reads as compare-reads
 
--- src/lib.rt:124:9
+refuses : (a b : Record) → Refused Unlawful ≡ first (meeting narrow a b []) → NotCompared Unlawful ≡ compared narrow a b
+unfolding compared
+refuses a b e = ap (λ (m : Answer). told m (Rattle.rules.specs.Stamps.compare (held a) (held b))) e
+
 is-lawful-in-requires : tie.Need-is-lawful-in-requires
 is-lawful-in-requires c κs = search needs
 
--- src/lib.rt:125:9
 returns : tie.Need-returns
-returns c = ?
+returns c =
+    let l = c .before in
+    let g = l .before .before .before .before .before .before .args in
+    refuses _ _ (first-unlawful narrow (g .t1) (g .t2) (sym (l .is-lawful-in .ensures) ∙ not-true _ (c .if1 .taken)))
 
--- src/lib.rt:127:9
 is-lawful-in-requires-2 : tie.Need-is-lawful-in-requires-2
 is-lawful-in-requires-2 c κs = search needs
 
--- src/lib.rt:128:9
 returns-2 : tie.Need-returns-2
-returns-2 c = ?
+returns-2 c =
+    let m = c .before in
+    let e = m .before .before .before .before .before .before in
+    let l = e .before in
+    let g = l .before .before .before .before .before .before .args in
+    refuses _ _ (second-unlawful narrow (g .t1) (g .t2) (sym (l .is-lawful-in .ensures) ∙ not-false _ (e .if1 .left)) (sym (m .is-lawful-in2 .ensures) ∙ not-true _ (c .if2 .taken)))
 
--- src/lib.rt:131:9
 counted-requires : tie.Need-counted-requires
 counted-requires c κs = search needs
 
--- src/lib.rt:132:9
 counted-requires-2 : tie.Need-counted-requires-2
 counted-requires-2 c κs = search needs
 
--- src/lib.rt:133:9
 counted-requires-3 : tie.Need-counted-requires-3
 counted-requires-3 c κs = search needs
 
--- src/lib.rt:134:9
 counted-requires-4 : tie.Need-counted-requires-4
 counted-requires-4 c κs = search needs
 
--- src/lib.rt:130:5
 compare-requires : tie.Need-compare-requires
 compare-requires c κs = search needs
 
--- src/lib.rt:121:1
 returns-3 : tie.Need-returns-3
-returns-3 c = ?
+returns-3 c =
+    let j = c .before in
+    let v = j .before .before .before in
+    let i = v .before .before .before .before in
+    let u = i .before .before .before in
+    let f = u .before .before .before .before in
+    let m = f .before in
+    let e = m .before .before .before .before .before .before in
+    let l = e .before in
+    let g = l .before .before .before .before .before .before .args in
+    c .compare .ensures
+    ∙ (λ n. compareWalk (u .counted .ensures .1 n) (i .counted2 .ensures .1 n) (v .counted3 .ensures .1 n) (j .counted4 .ensures .1 n))
+    ∙ compare-walk narrow (omega arith) (g .t1) (g .t2) (sym (l .is-lawful-in .ensures) ∙ not-false _ (e .if1 .left))
+    (sym (m .is-lawful-in2 .ensures) ∙ not-false _ (f .if2 .left))
 
 pub compare-spec : {M : Type 1} → statement M
 compare-spec =

@@ -1,52 +1,110 @@
+-- `stamps::is_lawful_in` meets its contract: the four parts of a stored record, one after the other. Assumes nothing.
 use borrow.Author.Needs.{needs}
+use mathlib.Core.Path.{_≡_, refl, sym, ap, _∙_}
+use mathlib.Core.Bool.{Bool, true, false, not}
+use Rattle.rules.specs.Limits.{narrow}
+use Rattle.rules.specs.Names.{below}
+use Rattle.rules.specs.Stamps.{isNone, pair}
+use Rattle.rules.specs.Stored.{strsIn, isStoredName, isStored}
+use Rattle.rules.specs.declared.Record.{Record}
+use Rattle.walks.specs.Walks.{belowWalk, hasTwins}
+use Rattle.stamps.proofs.Laws.{stored-parts, lent-below, lent-twins}
 use Rattle.stamps.proofs.is_lawful_in.Statement.{statement}
 use Rattle.stamps.proofs.is_lawful_in.Tie as tie
-use Rattle.stamps.proofs.is_lawful_in.Reads as reads
-use Rattle.stamps.proofs.is_lawful_in.Lts as lts
-use Rattle.names.proofs.counted.Reads as counted-reads
-use Rattle.names.proofs.is_name_in.Reads as is-name-in-reads
-use Rattle.walks.proofs.has_twins.Reads as has-twins-reads
-use Rattle.walks.proofs.is_below.Reads as is-below-reads
 
--- src/lib.rt:45:8
+not-not : (b : Bool) → not (not b) ≡ b
+not-not true = refl
+not-not false = refl
+
+-- the answer where a test fails, and at the end of the tests
+module _ (r : Record) where
+  abbrev Update : Bool → Type 0
+  Update x = isStoredName narrow (r .update) ≡ x
+
+  abbrev Id : Bool → Type 0
+  Id x = isStoredName narrow (r .id) ≡ x
+
+  abbrev Below : Bool → Type 0
+  Below x = below (strsIn (r .update)) (strsIn (r .id)) ≡ x
+
+  no-update : Update false → false ≡ isStored narrow r
+  no-update p = sym (stored-parts narrow r ∙ rw p)
+
+  no-id : Update true → Id false → false ≡ isStored narrow r
+  no-id p q = sym (stored-parts narrow r ∙ rw (p, q))
+
+  not-below : Update true → Id true → Below false → false ≡ isStored narrow r
+  not-below p q s = sym (stored-parts narrow r ∙ rw (p, q, s))
+
+  twins-tell : (b : Bool) → Update true → Id true → Below true → b ≡ not (isNone (pair (strsIn (r .id)))) → not b ≡ isStored narrow r
+  twins-tell b p q s e = ap not e ∙ not-not (isNone (pair (strsIn (r .id)))) ∙ sym (stored-parts narrow r ∙ rw (p, q, s))
+
+abbrev given : tie.Start → Record
+given g = record { update = record { count = g .args .uc; words = g .args .u .now }; id = record { count = g .args .ic; words = g .args .i .now } }
+
 is-name-in-requires : tie.Need-is-name-in-requires
 is-name-in-requires c κs = search needs
 
--- src/lib.rt:46:12
 is-name-in-requires-2 : tie.Need-is-name-in-requires-2
 is-name-in-requires-2 c κs = search needs
 
--- src/lib.rt:47:17
 counted-requires : tie.Need-counted-requires
 counted-requires c κs = search needs
 
--- src/lib.rt:48:25
 counted-requires-2 : tie.Need-counted-requires-2
 counted-requires-2 c κs = search needs
 
--- src/lib.rt:48:16
 is-below-requires : tie.Need-is-below-requires
 is-below-requires c κs = search needs
 
--- src/lib.rt:49:25
 has-twins-requires : tie.Need-has-twins-requires
 has-twins-requires c κs = search needs
 
--- src/lib.rt:49:17
+-- the answers of the calls before the walks, where both names are stored
+module _ (b : tie.After-is-below) where
+  abbrev id : tie.After-counted
+  id = b .before .before
+
+  abbrev i : tie.After-is-name-in2
+  i = id .before .before
+
+  abbrev u : tie.After-is-name-in
+  u = i .before .before
+
+  abbrev r : Record
+  r = given (u .before .before .before)
+
+  update-named : isStoredName narrow (r .update) ≡ true
+  update-named = sym (u .is-name-in .ensures) ∙ i .before .if1 .taken
+
+  id-named : isStoredName narrow (r .id) ≡ true
+  id-named = sym (i .is-name-in2 .ensures) ∙ id .before .if2 .taken
+
+  below-is : b .is-below .result ≡ below (strsIn (r .update)) (strsIn (r .id))
+  below-is =
+      b .is-below .ensures ∙ (λ n. belowWalk (b .before .counted2 .ensures .1 n) (id .counted .ensures .1 n))
+      ∙ lent-below (r .update) (r .id) update-named id-named
+
 returns : tie.Need-returns
-returns c = ?
+returns c =
+    let b = c .before .before in
+    let n = id-named b in
+    twins-tell (r b) (c .has-twins .result) (update-named b) n (sym (below-is b) ∙ c .before .if3 .taken)
+    (c .has-twins .ensures ∙ ap hasTwins (id b .counted .ensures .1) ∙ lent-twins (r b .id) n)
 
--- src/lib.rt:42:1
 returns-2 : tie.Need-returns-2
-returns-2 c = ?
+returns-2 c = let b = c .before in not-below (r b) (update-named b) (id-named b) (sym (below-is b) ∙ c .if3 .left)
 
--- src/lib.rt:42:1
 returns-3 : tie.Need-returns-3
-returns-3 c = ?
+returns-3 c =
+    let i = c .before in
+    let u = i .before .before in
+    no-id (given (u .before .before .before)) (sym (u .is-name-in .ensures) ∙ i .before .if1 .taken) (sym (i .is-name-in2 .ensures) ∙ c .if2 .left)
 
--- src/lib.rt:42:1
 returns-4 : tie.Need-returns-4
-returns-4 c = ?
+returns-4 c =
+    let u = c .before in
+    no-update (given (u .before .before .before)) (sym (u .is-name-in .ensures) ∙ c .if1 .left)
 
 pub is-lawful-in-spec : {M : Type 1} → statement M
 is-lawful-in-spec =
