@@ -80,12 +80,6 @@ pub extern "C" fn probe_write(r: &[u64; 34], out: &mut [u8]) -> u64 {
     written_code(packed::write(record_in(r), out))
 }
 
-// `packed::size`.
-#[no_mangle]
-pub extern "C" fn probe_size(r: &[u64; 34]) -> usize {
-    packed::size(record_in(r))
-}
-
 // `bundles::entry`.
 #[no_mangle]
 pub extern "C" fn probe_entry(b: &[u8], k: usize, out: &mut [u64; 34]) -> u64 {

@@ -4,7 +4,7 @@ use rules::Record;
 use rules::Words;
 
 // The record that the words say.
-pub fn record_in(r: &[u64; 34]) -> Record {
+pub(crate) fn record_in(r: &[u64; 34]) -> Record {
     Record {
         update: name_in(r, 0),
         id: name_in(r, 17),
@@ -12,7 +12,7 @@ pub fn record_in(r: &[u64; 34]) -> Record {
 }
 
 // The words of a record.
-pub fn put_record(r: Record, out: &mut [u64; 34]) {
+pub(crate) fn put_record(r: Record, out: &mut [u64; 34]) {
     put_name(r.update, 0, out);
     put_name(r.id, 17, out);
 }
