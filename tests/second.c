@@ -1,4 +1,4 @@
-/* The four calls once more, told over text: bits are the characters 0 and 1, a string is a C string, a name an
+/* The calls once more, told over text: bits are the characters 0 and 1, a string is a C string, a name an
  * unsorted heap of them. Nothing is shared with the library, neither code nor representation: order is strcmp,
  * prefix is strncmp, and reduction settles the id alone and then lifts the update to it in one go. */
 #define _GNU_SOURCE
@@ -249,4 +249,13 @@ uint64_t second_compare(const uint8_t *first, size_t first_len, const uint8_t *s
     if (r) return REFUSED + (uint64_t)r;
     int x = is_below(&a.u, &b.u), y = is_below(&b.u, &a.u);
     return x ? (y ? 0 : 1) : (y ? 2 : 3);
+}
+
+uint64_t second_room(const uint8_t *s, size_t s_len) {
+    stamp x;
+    if (read_stamp(s, s_len, &x)) return 0;
+    size_t most = 0;
+    for (int k = 0; k < x.i.n; k++)
+        if (strlen(x.i.s[k]) > most) most = strlen(x.i.s[k]);
+    return 100 * (uint64_t)x.i.n + most;
 }

@@ -36,6 +36,13 @@ static void *compare(void *unused) {
     return unused;
 }
 
+uint64_t ebbmuslin_room(const uint8_t *stamp, size_t stamp_len);
+
+static void *room(void *unused) {
+    ebbmuslin_room(first, first_len);
+    return unused;
+}
+
 static size_t used(void *(*call)(void *)) {
     pthread_attr_t attr;
     pthread_t thread;
@@ -87,9 +94,9 @@ int main(int argc, char **argv) {
     struct {
         const char *name;
         void *(*call)(void *);
-    } calls[] = {{"update", update}, {"fork", fork_both}, {"join", join}, {"compare", compare}};
+    } calls[] = {{"update", update}, {"fork", fork_both}, {"join", join}, {"compare", compare}, {"room", room}};
     int bad = 0;
-    for (size_t k = 0; k < 4; k++) {
+    for (size_t k = 0; k < sizeof calls / sizeof calls[0]; k++) {
         size_t n = deepest(calls[k].call) - base;
         printf("%s: %zu bytes of stack\n", calls[k].name, n);
         bad |= n > most;
