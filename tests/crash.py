@@ -294,7 +294,8 @@ def main():
         points, states = points + case.points, states + case.states
     count = in_new_folder(refusals)
     assert points > 500, points
-    print(f"crash: {points} kill points in {len(CASES)} commands, {states} states on the disk, every one completed or taken back; {count} refusals and completions after them")
+    told = f"{states} states on the disk, every one completed or taken back; {count} refusals and completions after them"
+    print(f"crash: {points} kill points in {len(CASES)} commands, {told}")
 
 
 try:
