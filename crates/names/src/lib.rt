@@ -41,6 +41,19 @@ pub fn is_name_in(words: &[u64], count: usize) -> bool
     false
 }
 
+// Whether the words from index c on are 0: no bit is set in any of them.
+pub fn is_zero_from(w: &[u64], c: usize) -> bool
+    ensures { λ r. ⌜ r ≡ all (eqb 0) (drop c (now (w .entry))) ⌝ }
+{
+    let mut bits = 0;
+    let mut i = c;
+    while i < w.len() {
+        bits |= w[i];
+        i += 1;
+    }
+    bits == 0
+}
+
 // Whether each of the first c words is that of a string, and each string comes before the next.
 fn rises(w: &[u64], c: usize) -> bool
     requires { ⌜ (1 ≤ c) × (c ≤ length (now w)) ⌝ }
@@ -71,17 +84,4 @@ fn ends_before(a: u64, b: u64) -> bool
     ensures { λ r. ⌜ r ≡ less (strOf a) (strOf b) ⌝ }
 {
     last(a) < b
-}
-
-// Whether the words from index c on are 0: no bit is set in any of them.
-fn is_zero_from(w: &[u64], c: usize) -> bool
-    ensures { λ r. ⌜ r ≡ all (eqb 0) (drop c (now (w .entry))) ⌝ }
-{
-    let mut bits = 0;
-    let mut i = c;
-    while i < w.len() {
-        bits |= w[i];
-        i += 1;
-    }
-    bits == 0
 }
