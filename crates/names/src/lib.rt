@@ -43,6 +43,19 @@ pub fn is_name_in(words: &[u64], count: usize) -> bool
     false
 }
 
+// Whether the words from index c on are 0: no bit is set in any of them.
+pub fn is_zero_from(w: &[u64], c: usize) -> bool
+    ensures { λ r. ⌜ r ≡ all (eqb 0) (drop c (now (w .entry))) ⌝ }
+{
+    let mut bits = 0;
+    let mut i = c;
+    while i < w.len() {
+        bits |= w[i];
+        i += 1;
+    }
+    bits == 0
+}
+
 // Whether each of the first c words is that of a string, and each string comes before the next.
 fn rises(w: &[u64], c: usize) -> bool
     requires { ⌜ (1 ≤ c) × (c ≤ length (now w)) ⌝ }
@@ -73,19 +86,6 @@ fn ends_before(a: u64, b: u64) -> bool
     ensures { λ r. ⌜ r ≡ less (strOf a) (strOf b) ⌝ }
 {
     last(a) < b
-}
-
-// Whether the words from index c on are 0: no bit is set in any of them.
-fn is_zero_from(w: &[u64], c: usize) -> bool
-    ensures { λ r. ⌜ r ≡ all (eqb 0) (drop c (now (w .entry))) ⌝ }
-{
-    let mut bits = 0;
-    let mut i = c;
-    while i < w.len() {
-        bits |= w[i];
-        i += 1;
-    }
-    bits == 0
 }
 
 // The words that are counted, in their place: all where there are no more.
