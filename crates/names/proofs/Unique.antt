@@ -9,6 +9,7 @@ use Rattle.names.proofs.is_name
 use Rattle.names.proofs.is_name_in
 use Rattle.names.proofs.counted
 use Rattle.names.proofs.grow
+use Rattle.names.proofs.is_zero_from
 
 pub is-name-one-answer : OneAnswer is_name.ended (λ M 𝓤. is_name.clauses 𝓤) (λ M 𝓤. is_name.spec 𝓤)
 is-name-one-answer M 𝓤 H A mem run = (refl, λ κs a g h r s v w. both-say 𝓤 (λ e f. (agree e f, refl)))
@@ -22,3 +23,6 @@ counted-one-answer M 𝓤 H A mem run = (refl, λ κs a g h r s v w. both-say �
 
 pub grow-one-answer : OneAnswer grow.ended (λ M 𝓤. grow.clauses 𝓤) (λ M 𝓤. grow.spec 𝓤)
 grow-one-answer M 𝓤 H A mem run = (refl, λ κs a g h r s v w. both-say 𝓤 (λ e f. (refl, λ i. (tt, (agree (e .0) (f .0) i, (agree (e .1) (f .1) i, tt))))))
+
+pub is-zero-from-one-answer : OneAnswer is_zero_from.ended (λ M 𝓤. is_zero_from.clauses 𝓤) (λ M 𝓤. is_zero_from.spec 𝓤)
+is-zero-from-one-answer M 𝓤 H A mem run = (refl, λ κs a g h r s v w. both-say 𝓤 (λ e f. (agree e f, refl)))

@@ -6,10 +6,10 @@ ghost use Rattle.rules.specs.Stored.{blank, isStored};
 ghost use Rattle.rules.specs.Refusals.{first};
 ghost use Rattle.rules.specs.Values.{updated, forked, compared, meeting};
 ghost use Rattle.rules.specs.declared.Answer.the-variants.{Refused};
+use names::STRINGS;
 use names::counted;
 use names::grow;
 use names::is_name_in;
-use names::STRINGS;
 use rules::Answer;
 use rules::Compared;
 use rules::Forked;
@@ -87,8 +87,14 @@ pub fn fork(r: Record) -> Forked
     let mut w1 = [0; STRINGS];
     grow(id, &mut w0, &mut w1);
     let u = r.update;
-    let i0 = Words { count: c, words: w0 };
-    let i1 = Words { count: c, words: w1 };
+    let i0 = Words {
+        count: c,
+        words: w0,
+    };
+    let i1 = Words {
+        count: c,
+        words: w1,
+    };
     let zero = Record { update: u, id: i0 };
     let one = Record { update: u, id: i1 };
     Forked {
