@@ -17,6 +17,9 @@ use strings::last;
 // A name has at most so many strings.
 pub const STRINGS: usize = 16;
 
+// The union of two names has at most so many strings.
+pub const UNION: usize = 32;
+
 // Whether the record is the stored shape of a name.
 pub fn is_name(n: Words) -> bool
     ensures { λ r. ⌜ r ≡ isStoredName narrow n ⌝ }
@@ -87,35 +90,6 @@ fn ends_before(a: u64, b: u64) -> bool
 {
     last(a) < b
 }
-
-// The words that are counted, in their place: all where there are no more.
-pub fn counted(w: &[u64], c: usize) -> &[u64]
-    ensures { λ r. ⌜ countedIs c (w .entry) r ⌝ }
-{
-    if w.len() < c {
-        return w;
-    }
-    &w[..c]
-}
-
-// The words of an id with 0 appended to each string, and with 1, over the front of zero and of one: no more of them than a name has.
-pub fn grow(id: &[u64], zero: &mut [u64; STRINGS], one: &mut [u64; STRINGS])
-    ensures { λ _. ⌜ (now (zero .exit) ≡ grownIn 0 (take (narrow .strings) (now (id .entry))) (now (zero .entry)))
-        × (now (one .exit) ≡ grownIn 1 (take (narrow .strings) (now (id .entry))) (now (one .entry))) ⌝ }
-{
-    let front = counted(id, STRINGS);
-    let mut k = 0;
-    while k < front.len() {
-        let s = front[k];
-        let t = wrapping_add_u64(s, 1);
-        zero[k] = t;
-        one[k] = wrapping_add_u64(t, 1 << (63 - s % 64));
-        k += 1;
-    }
-}
-
-// The union of two names has at most so many strings.
-pub const UNION: usize = 32;
 
 // The words that are counted, in their place: all where there are no more.
 pub fn counted(w: &[u64], c: usize) -> &[u64]

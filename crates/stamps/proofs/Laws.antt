@@ -9,10 +9,10 @@ use Prim.Native.Nat.{ℕ, zero, suc, _+_, _*_, _-_, _%_, _^_, _≤_, _<_}
 use native.Mathlib.Numerals.{add-one}
 use native.Mathlib.Omega.{arith}
 use lib.Dec.{eqb}
-use lib.ListN.{length, getD, take, drop, set, replicate, length-map, length-replicate}
+use lib.ListN.{length, getD, take, set, replicate, length-map, length-replicate}
 use borrow.Author.Tests.{eqb-false}
 use Rattle.rules.specs.Limits.{Limits, narrow}
-use Rattle.rules.specs.Strings.{Str, _▹_, digit, wordOf, strOf}
+use Rattle.rules.specs.Strings.{Str, _▹_, digit, wordOf}
 use Rattle.rules.specs.Names.{Name, any, rising, isName, below}
 use Rattle.rules.specs.Stamps.{pair, isNone, lawful, append, update, fork}
 use Rattle.rules.specs.Stored.{wordsOf, stored, strsIn, held, sameWords, sameRecord, isStoredName, isStored, unlawful}
@@ -31,7 +31,6 @@ use Rattle.laws.proofs.Lawful.{Named, name-parts}
 use Rattle.laws.proofs.Stored.{stored-is, stored-name, stored-name-is}
 use Rattle.walks.specs.Walks.{strs, belowWalk, hasTwins, isLong}
 use Rattle.walks.proofs.Tells.{below-walk, twins, long}
-use Rattle.names.proofs.Laws.{strs-cons, strs-end}
 use Rattle.names.proofs.Shape.{stored-full, stored-words, stored-rising}
 
 -- ---- a stored record
@@ -99,20 +98,13 @@ module _ (L : Limits) (n : Words) (h : isStoredName L n ≡ true) where
   unfolding wordsOf
   words-are = ap (λ (w : Words). w .words) (stored-name-is L n h)
 
-  pub stored-filled : 1 ≤ n .count
-  stored-filled = omega (arith, stored-count, named .filled)
-
   pub stored-few : n .count ≤ L .strings
   stored-few = omega (arith, stored-count, named .few)
 
-  -- the strings from i on: the one at i, and those from i + 1 on
-  pub stored-cons : (i : ℕ) → i < n .count → drop i (strsIn n) ≡ strOf (getD (n .words) i 0) ∷ drop (i + 1) (strsIn n)
-  stored-cons i l = strs-cons n (L .strings) (stored-full L n h) i (omega (arith, stored-few))
-
-  pub stored-end : (i : ℕ) → n .count ≤ i → drop i (strsIn n) ≡ []
-  stored-end i l = strs-end n (L .strings) (stored-full L n h) i (omega (arith, stored-few))
-
 -- ---- the walks over the words that are counted
+
+pub lent-room : (c : ℕ) (w : List ℕ) → isStoredName narrow (record { count = c; words = w }) ≡ true → c ≤ length w
+lent-room c w h = let n : Words = record { count = c; words = w } in omega (arith, stored-few narrow n h, stored-full narrow n h)
 
 module _ (n : Words) where
   abbrev counted : List ℕ
