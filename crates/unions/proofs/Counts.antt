@@ -9,7 +9,8 @@ use lib.Dec.{eqb, leb, ltb}
 use lib.ListN.{length, take, length-reverse}
 use lib.Seq.{length-take-le}
 use Rattle.rules.specs.Strings.{siblings, strOf}
-use Rattle.unions.specs.Unions.{behind, mergeFrom, merge, push, pushAll, reduced, reducedCount, seek, lift, onceFrom, once, lifted}
+use Rattle.strings.specs.Words.{begins}
+use Rattle.unions.specs.Unions.{mergeFrom, merge, push, pushAll, reduced, reducedCount, seek, lift, onceFrom, once, lifted}
 
 pub merge-few : (m n : List ℕ) → length (merge m n) ≤ length m + length n
 unfolding merge mergeFrom
@@ -18,10 +19,10 @@ merge-few (s ∷ m) n = from n (λ l. merge-few m l)
   where
     from : (n : List ℕ) → ((l : List ℕ) → length (merge m l) ≤ length m + length l) → length (merge (s ∷ m) n) ≤ suc (length m) + length n
     from [] ih = omega arith
-    from (t ∷ n) ih = by (ltb s t) (behind t s) (behind s t) (from n ih) (ih (t ∷ n))
+    from (t ∷ n) ih = by (ltb s t) (begins s t) (begins t s) (from n ih) (ih (t ∷ n))
       where
         by : (a b c : Bool) → length (merge (s ∷ m) n) ≤ suc (length m) + length n → length (merge m (t ∷ n)) ≤ length m + suc (length n)
-            → length (cond a (cond b (s ∷ merge m (t ∷ n)) (merge m (t ∷ n))) (cond c (t ∷ merge (s ∷ m) n) (merge (s ∷ m) n)))
+            → length (cond a (cond b (merge m (t ∷ n)) (s ∷ merge m (t ∷ n))) (cond c (merge (s ∷ m) n) (t ∷ merge (s ∷ m) n)))
             ≤ suc (length m) + suc (length n)
         by true true c p q = omega arith
         by true false c p q = omega arith

@@ -1,18 +1,18 @@
 -- Names as words in rising order: the union as one merge, the reduction of an id by a stack, and what reduction makes of the update.
 -- Each goes once over its words. That they are `union` and `reduce` of the rules is shown in proofs/.
-use mathlib.Core.Bool.{Bool, true, false, cond}
+use mathlib.Core.Bool.{Bool, true, false, cond, not, _&&_}
 use mathlib.Core.List.{List, [], _∷_, _++_, reverse}
 use Prim.Native.Nat.{ℕ, zero, suc, _+_, _-_}
 use lib.Dec.{eqb, leb, ltb}
 use lib.ListN.{length, getD, take, replicate}
 use Rattle.rules.specs.Strings.{siblings, strOf}
 use Rattle.rules.specs.Packed.{over}
-use Rattle.strings.specs.Words.{lastOf}
+use Rattle.strings.specs.Words.{begins}
 use Rattle.unions.specs.declared.Joined.{Joined}
 
--- t stands behind all words that begin with the string of s: so t comes after s, and does not extend it
+-- t comes after s, and does not extend it
 abbrev pub behind : ℕ → ℕ → Bool
-behind t s = ltb (lastOf s) t
+behind t s = ltb s t && not (begins s t)
 
 -- x, or nothing
 abbrev pub opt : Bool → ℕ → List ℕ
@@ -40,8 +40,8 @@ unfoldable pub mergeFrom : ℕ → List ℕ → (List ℕ → List ℕ) → List
 mergeFrom s m k [] = s ∷ m
 mergeFrom s m k (t ∷ n) =
     cond (ltb s t)
-    (cond (behind t s) (s ∷ k (t ∷ n)) (k (t ∷ n)))
-    (cond (behind s t) (t ∷ mergeFrom s m k n) (mergeFrom s m k n))
+    (cond (begins s t) (k (t ∷ n)) (s ∷ k (t ∷ n)))
+    (cond (begins t s) (mergeFrom s m k n) (t ∷ mergeFrom s m k n))
 
 -- the lower word comes first; a string is not kept beside one that it is a prefix of
 unfoldable pub merge : List ℕ → List ℕ → List ℕ

@@ -5,7 +5,7 @@ ghost use lib.ListN.{length, drop, replicate};
 ghost use lib.Seq.{sets};
 ghost use Rattle.unions.specs.Unions.{opt, stack, united, unitedIn, push, reducedCount, reducedIn, seek, root, onceOn, liftedCount, liftedIn, joinedCounts, joinedUpdateIn, joinedIdIn};
 use strings::are_siblings;
-use strings::last;
+use strings::begins;
 
 // How many words the update and the id of a join have.
 pub struct Joined {
@@ -51,10 +51,10 @@ pub fn unite(m: &[u64], n: &[u64], out: &mut [u64]) -> usize
         let s = m[i];
         let t = n[j];
         if s < t {
-            k = put(out, k, last(s) < t, s);
+            k = put(out, k, !begins(s, t), s);
             i += 1;
         } else {
-            k = put(out, k, last(t) < s, t);
+            k = put(out, k, !begins(t, s), t);
             j += 1;
         }
     }
@@ -108,7 +108,7 @@ fn seek(id: &[u64], j: usize, r: u64) -> usize
     ensures { λ i. ⌜ (i ≤ length (now (id .entry))) × (drop i (now (id .entry)) ≡ seek (drop j (now (id .entry))) r) ⌝ }
 {
     let mut i = j;
-    while i < id.len() && last(id[i]) < r {
+    while i < id.len() && id[i] < r && !begins(id[i], r) {
         i += 1;
     }
     i

@@ -48,8 +48,8 @@ mul-t c = search needs
 shared-slice-read-t : tie.Need-shared-slice-read-t Inv-loop μ-loop
 shared-slice-read-t c = search needs
 
-last-requires : tie.Need-last-requires Inv-loop μ-loop
-last-requires c κs = search needs
+begins-requires : tie.Need-begins-requires Inv-loop μ-loop
+begins-requires c κs = search needs
 
 put-requires : tie.Need-put-requires Inv-loop μ-loop
 put-requires c κs = search needs
@@ -73,13 +73,13 @@ loop-again c =
       omega (arith, hj),
       omega (arith, p .put .ensures .0),
       p .put .kept .0 ∙ l .loop .inv .3,
-      merges-lower (g .m .now) (g .n .now) (l .loop .out) (l .loop .k) (l .loop .i) (l .loop .j) (omega arith) hj (w .last .result) (p .put .result) (p .put .last .0)
-          (x .if3 .taken) (w .last .ensures) (p .put .ensures .1) (p .put .ensures .2)
+      merges-lower (g .m .now) (g .n .now) (l .loop .out) (l .loop .k) (l .loop .i) (l .loop .j) (omega arith) hj (w .begins .result) (p .put .result) (p .put .last .0)
+          (x .if3 .taken) (w .begins .ensures) (p .put .ensures .1) (p .put .ensures .2)
           ∙ l .loop .inv .4,
     )
 
-last-requires-2 : tie.Need-last-requires-2 Inv-loop μ-loop
-last-requires-2 c κs = search needs
+begins-requires-2 : tie.Need-begins-requires-2 Inv-loop μ-loop
+begins-requires-2 c κs = search needs
 
 put-requires-2 : tie.Need-put-requires-2 Inv-loop μ-loop
 put-requires-2 c κs = search needs
@@ -106,8 +106,8 @@ loop-again-2 c =
       omega (arith, hj),
       omega (arith, p .put2 .ensures .0),
       p .put2 .kept .0 ∙ l .loop .inv .3,
-      merges-upper (g .m .now) (g .n .now) (l .loop .out) (l .loop .k) (l .loop .i) (l .loop .j) (omega arith) hj (w .last2 .result) (p .put2 .result) (p .put2 .last .0)
-          (x .if3 .left) (w .last2 .ensures) (p .put2 .ensures .1) (p .put2 .ensures .2)
+      merges-upper (g .m .now) (g .n .now) (l .loop .out) (l .loop .k) (l .loop .i) (l .loop .j) (omega arith) hj (w .begins2 .result) (p .put2 .result) (p .put2 .last .0)
+          (x .if3 .left) (w .begins2 .ensures) (p .put2 .ensures .1) (p .put2 .ensures .2)
           ∙ l .loop .inv .4,
     )
 
@@ -158,12 +158,12 @@ unite-spec =
     shared-slice-read-s
     mul-t
     shared-slice-read-t
-    last-requires
+    begins-requires
     put-requires
     add-i
     loop-less
     loop-again
-    last-requires-2
+    begins-requires-2
     put-requires-2
     add-j
     loop-less-2

@@ -90,7 +90,7 @@ each-again c =
     let b = c .before .begins in (
       search needs,
       sym (below-at s (drop (e .each .i + 1) m) (g .args .n .now) (l .loop .j) true (omega arith) (omega (arith, t .if2 .taken))
-      (sym (b .ensures) ∙ not-false (b .result) (c .if3 .left))) ∙ l .loop .inv .1,
+          (sym (b .ensures) ∙ not-false (b .result) (c .if3 .left))) ∙ l .loop .inv .1,
     )
 
 returns : tie.Need-returns Inv-loop μ-loop Inv-each μ-each
