@@ -1,16 +1,13 @@
 -- None of the three leaves more words than it is given. Assumes nothing.
-use mathlib.Core.Path.{_≡_, refl}
 use mathlib.Core.Bool.{Bool, true, false, cond}
 use mathlib.Core.List.{List, [], _∷_}
 use Prim.Native.Nat.{ℕ, suc, _+_, _-_, _≤_}
 use native.Mathlib.Omega.{arith}
-use borrow.Author.Tests.{leb-true}
-use lib.Dec.{eqb, leb, ltb}
-use lib.ListN.{length, take, length-reverse}
-use lib.Seq.{length-take-le}
+use lib.Dec.{eqb, ltb}
+use lib.ListN.{length, length-reverse}
 use Rattle.rules.specs.Strings.{siblings, strOf}
 use Rattle.strings.specs.Words.{begins}
-use Rattle.unions.specs.Unions.{mergeFrom, merge, push, pushAll, reduced, reducedCount, seek, lift, onceFrom, once, lifted}
+use Rattle.unions.specs.Unions.{mergeFrom, merge, push, pushAll, reduced, seek, lift, onceFrom, once, lifted}
 
 pub merge-few : (m n : List ℕ) → length (merge m n) ≤ length m + length n
 unfolding merge mergeFrom
@@ -46,17 +43,6 @@ all-few (s ∷ l) n = omega (arith, all-few l (push s n), push-few n s)
 pub reduced-few : (l : List ℕ) → length (reduced l) ≤ length l
 unfolding reduced
 reduced-few l = omega (arith, length-reverse (pushAll [] l), all-few l [])
-
--- so the buffer has room for them
-pub reduced-fits : (id : List ℕ) (count : ℕ) → reducedCount id count ≤ length id
-unfolding reducedCount
-reduced-fits id count = by (leb count (length id)) refl
-  where
-    by : (b : Bool) → leb count (length id) ≡ b → cond b (length (reduced (take count id))) 0 ≤ length id
-    by true e =
-        let h = leb-true count (length id) e in
-        omega (arith, h, reduced-few (take count id), length-take-le count id h)
-    by false e = omega arith
 
 from-few : (l : List ℕ) (a : ℕ) → length (onceFrom a l) ≤ length l
 unfolding onceFrom

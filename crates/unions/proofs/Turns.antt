@@ -7,11 +7,12 @@ use Prim.Native.Nat.{ℕ, suc, _+_, _≤_, _<_}
 use native.Mathlib.Nat.{zero-add, add-assoc}
 use native.Mathlib.Numerals.{add-one}
 use native.Mathlib.Omega.{arith}
-use borrow.Author.Tests.{lt-ltb, le-ltb, le-leb, lt-leb}
+use borrow.Author.Tests.{lt-ltb, le-ltb}
 use lib.ListN.{length, drop, getD, length-append, drop-of-length-le}
 use lib.Seq.{sets, drop-cons}
+use Rattle.rules.specs.Packed.{over}
 use Rattle.strings.specs.Words.{begins}
-use Rattle.unions.specs.Unions.{opt, mergeFrom, merge, united, unitedIn}
+use Rattle.unions.specs.Unions.{opt, mergeFrom, merge}
 use Rattle.unions.proofs.Counts.{merge-few}
 use Rattle.unions.proofs.Stores.{sets-append, sets-front}
 
@@ -91,12 +92,7 @@ merges-end m n out k i j h =
     one (inl e) = rw (drop-of-length-le n e) (merge-none (drop i m) ∙ sym (append-nil (drop i m)))
     one (inr e) = rw (drop-of-length-le m e)
 
-pub merges-all : (m n out : List ℕ) → length m + length n ≤ length out → merges m n out 0 ≡ (united m n out, unitedIn m n out)
-unfolding merges united unitedIn
+pub merges-all : (m n out : List ℕ) → length m + length n ≤ length out → merges m n out 0 ≡ (length (merge m n), over (merge m n) out)
+unfolding merges
 merges-all m n out h =
-    simp (le-leb (length m + length n) (length out) h)
-    (ap₂ (λ (x : ℕ) (y : List ℕ). (x, y)) (zero-add (length (merge m n))) (sets-front (merge m n) out (omega (arith, merge-few m n))))
-
-pub united-none : (m n out : List ℕ) → length out < length m + length n → (0 ≡ united m n out) × (out ≡ unitedIn m n out)
-unfolding united unitedIn
-united-none m n out h = simp (lt-leb (length m + length n) (length out) h) (refl, refl)
+    ap₂ (λ (x : ℕ) (y : List ℕ). (x, y)) (zero-add (length (merge m n))) (sets-front (merge m n) out (omega (arith, merge-few m n)))
