@@ -65,7 +65,8 @@ static change change_of(const note *w) {
     return c;
 }
 
-/* A file that is to be replaced is still what it was; an edit since then is not overwritten. */
+/* A file that is to be replaced is still what it was; an edit since then is not overwritten. (What an editor writes between this look
+ * and the rename, a moment later, no program can see without the editor's help.) */
 static void guard(const folder *to, const change *c) {
     content now;
     int found = look(to, c->file, &now);
@@ -85,7 +86,7 @@ static void finish(folder *from, folder *to, const change *c) {
     char *stamp = stamp_file(c->file);
     drop(to, stamp);
     free(stamp);
-    if (found) put_in_place(to, c->file);
+    if (found) put_in_place(to, c->file, c->had);
     put_record(from, c->file, &c->from);
     put_record(to, c->file, &c->to);
     drop(from, CHANGE);

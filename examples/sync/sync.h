@@ -48,7 +48,7 @@ int get(const folder *at, const char *name, char **bytes, size_t *n);
 int look(const folder *at, const char *name, content *c);
 void put(const folder *at, const char *name, const void *bytes, size_t n);
 void drop(const folder *at, const char *name);
-void put_in_place(const folder *at, const char *name);
+void put_in_place(const folder *at, const char *name, bool replaces);
 content stage(const folder *from, const char *file, const folder *to);
 
 /* ---- record.c */
