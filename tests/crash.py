@@ -141,6 +141,7 @@ CASES = [
     ("settle a conflict", conflict, ["settle", "ship", FILE, "desk"], "equal"),
     ("settle equal copies", copied, ["settle", "desk", FILE, "ship"], "equal"),
     ("anew", cloned, ["anew", "yard", FILE, "desk"], "equal"),
+    ("retire", copied, ["retire", "ship", FILE, "desk"], None),
 ]
 
 
@@ -161,7 +162,7 @@ class Case:
             if name.endswith(".stamp"):
                 continue
             allowed = {s[name] for s in (self.before, self.after) if name in s}
-            assert name in state or name not in self.before, f"{self.name}, {where}: {name} is gone"
+            assert name in state or name not in self.before or name not in self.after, f"{self.name}, {where}: {name} is gone"
             assert name not in state or state[name] in allowed, f"{self.name}, {where}: {name} holds {state[name]}"
         apart(state, self.clones)
 

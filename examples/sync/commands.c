@@ -11,9 +11,10 @@ const char *advice(uint64_t refused) {
     switch (refused) {
     case EBBMUSLIN_MALFORMED: return "a stamp is damaged: fetch it again from where it came, or run sync anew with the sound folder first";
     case EBBMUSLIN_UNLAWFUL: return "a stamp says what no copy's stamp says: do not use this copy; run sync anew with the sound folder first";
-    case EBBMUSLIN_LONG: return "this copy was copied on too often: settle it with another copy first (docs/FLEETS.md)";
+    case EBBMUSLIN_LONG: return "this copy was copied on too often: have copies given back first, by sync retire (docs/FLEETS.md)";
     case EBBMUSLIN_MANY:
-        return "the two cannot become one yet: settle copies that were made from each other first (docs/FLEETS.md), or give one up by sync anew";
+        return "the two cannot become one yet: have copies that were made from each other given back first, by sync retire (docs/FLEETS.md), or "
+               "give one of the two up, by sync anew";
     case EBBMUSLIN_OVERLAP:
         return "two copies carry one identity: a folder was copied whole, stamps and all; neither side may replace the other: put what shall "
                "stand into one of them, and run sync anew with that folder first";
@@ -28,8 +29,8 @@ const char *advice(uint64_t refused) {
 bool warn(const char *file, const stamp *s) {
     uint64_t room = ebbmuslin_room(s->bytes, s->len), strings = room / 100, digits = room % 100;
     if (strings < 8 && digits < 18) return false;
-    printf("%s: its identity is in %" PRIu64 " pieces (16 are the most), the longest of %" PRIu64 " digits (24 are the most): gather the copies of this "
-           "file in one place soon, by sync settle of each pair that was made from each other (docs/FLEETS.md)\n", shown(file), strings, digits);
+    printf("%s: its identity is in %" PRIu64 " pieces (16 are the most), the longest of %" PRIu64 " digits (24 are the most): have copies of this file "
+           "given back soon, by sync retire, and copy it anew (docs/FLEETS.md)\n", shown(file), strings, digits);
     return true;
 }
 
@@ -207,4 +208,22 @@ void anew(folder *at, const char *file, folder *other) {
     done(updated(&a.stamp, &after), file);
     done(forked(&after, &c.from.stamp, &c.to.stamp), file);
     hand_over(at, other, &c, &(record){.of = now});
+}
+
+/* The other's copy is given back: its identity comes here, a join, and its file and stamp leave. Only where the two are equal, so that
+ * what leaves stands here. That is how a fleet is gathered; the file can be copied anew afterwards, with short stamps. */
+void retire(folder *at, const char *file, folder *other) {
+    record a, b;
+    need_name(file);
+    need_record(at, file, &a);
+    need_record(other, file, &b);
+    need_reported(at, file, &a);
+    need_reported(other, file, &b);
+    uint64_t verdict = compared(&a.stamp, &b.stamp);
+    done(verdict, file);
+    if (verdict != EBBMUSLIN_EQUAL || !is_same(a.of, b.of)) fail(file, "the two are not equal: take or settle them first, so that nothing is lost");
+    change c = {.file = file, .had = true, .was = b.of, .leaves = true, .from.of = a.of, .to.of = b.of};
+    done(joined(&a.stamp, &b.stamp, &c.from.stamp), file);
+    carry_out(at, other, &c);
+    warn(file, &c.from.stamp);
 }
