@@ -12,7 +12,8 @@
  *        chain each site meets the next, to and fro               random two sites, drawn
  * WAY    always  a meeting is a join and a fork                   equal  nothing is done where the two are equal
  *        giveup  and of two where one is obsolete, that one is given up and the newer forked
- *        frugal  and it is joined where that leaves no more strings than the newer has, else given up
+ *        frugal  it is joined where that leaves no more strings than the newer has, else given up
+ *        late    it is joined wherever that is not refused, else given up
  * EDITS  few   one site, drawn, has an edit before every tenth meeting; many  before each meeting; one  the first site, before each
  * GATHER 0, or after how many meetings all copies are joined and forked anew */
 #include "../tools/orders.h"
@@ -72,12 +73,13 @@ static int joined_and_forked(copy *a, copy *b) {
 
 /* ---- a meeting of two */
 
-enum { ALWAYS, EQUAL, GIVEUP, FRUGAL };
+enum { ALWAYS, EQUAL, GIVEUP, FRUGAL, LATE };
 
+/* The obsolete copy is joined to the newer or given up, and the newer is forked to both. */
 static int renewed(copy *newer, copy *old, int way) {
     copy whole;
-    if (way == FRUGAL && copies_joined(newer, old, &whole) == 0 && copy_strings(&whole) <= copy_strings(newer)) return forked(&whole, newer, old);
-    return forked(newer, newer, old);
+    int joins = way >= FRUGAL && copies_joined(newer, old, &whole) == 0 && (way == LATE || copy_strings(&whole) <= copy_strings(newer));
+    return joins && forked(&whole, newer, old) == 0 ? 0 : forked(newer, newer, old);
 }
 
 static int meet(copy *a, copy *b, int way) {
@@ -141,7 +143,7 @@ static int word(const char *w, const char *const *of, int n) {
     return 0;
 }
 
-static int way_of(const plan *p) { return word(p->way, (const char *const[]){"always", "equal", "giveup", "frugal"}, 4); }
+static int way_of(const plan *p) { return word(p->way, (const char *const[]){"always", "equal", "giveup", "frugal", "late"}, 5); }
 
 static void who(const plan *p, int t, int *a, int *b) {
     int links = word(p->links, (const char *const[]){"star", "ring", "chain", "random"}, 4), k = t % (2 * (sites - 1));

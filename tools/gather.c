@@ -57,7 +57,7 @@ static void pairs_apart(int n) {
 
 static void not_all(int n, const order *o) {
     if (o->every) printf("none: no order joins all %d copies\n", n);
-    else printf("none found: no order for all %d copies in %d tries; not every order was looked at\n", n, 200);
+    else printf("none found: no order for all %d copies in %d tries; not every order was looked at\n", n, COPIES_TRIES);
     printf("most: %d of %d:", o->size, n);
     for (int k = 0; k < n; k++)
         if (o->set >> k & 1) printf(" %d", k);

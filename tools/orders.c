@@ -117,7 +117,7 @@ typedef struct {
     copy is;
 } met;
 
-enum { REFUSED = 1 << 20, TRIES = 200, QUICK = 8 };
+enum { REFUSED = 1 << 20, QUICK = 8 };
 
 static uint64_t state;
 
@@ -187,6 +187,6 @@ static void greedy(const copy *copies, int n, int tries, order *o) {
 
 void find_order(const copy *copies, int n, order *found) {
     found->size = 0;
-    if (n > COPIES_TRIED) greedy(copies, n, n <= COPIES_SETS ? QUICK : TRIES, found);
+    if (n > COPIES_TRIED) greedy(copies, n, n <= COPIES_SETS ? QUICK : COPIES_TRIES, found);
     if (found->size < n && n <= COPIES_SETS) every_order(copies, n, found);
 }

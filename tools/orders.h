@@ -7,6 +7,7 @@ enum {
     COPIES_MOST = 64, /* copies that are looked at */
     COPIES_SETS = 16, /* up to so many, every order is looked at */
     COPIES_TRIED = 8, /* up to so many, every join of every order is tried on the library */
+    COPIES_TRIES = 200, /* how often an order is tried for more copies */
 };
 
 typedef struct {
