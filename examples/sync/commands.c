@@ -60,15 +60,13 @@ static uint64_t joined(const stamp *s, const stamp *t, stamp *out) {
 
 static uint64_t compared(const stamp *s, const stamp *t) { return ebbmuslin_compare(s->bytes, s->len, t->bytes, t->len); }
 
-/* The stamps of two copies that meet, where one is obsolete: which call is used, and so what it costs, is decided here alone.
- * docs/FLEETS.md's rule of thumb: they are joined where the result has no more id strings than the newer one, and forked again;
- * else the obsolete one's identity is given up, which costs its share for good, and the newer one is forked. */
+/* The stamps of two copies that meet, where one is obsolete: which calls are made, and so what it costs, is decided here alone.
+ * docs/FLEETS.md's rule of thumb, for a fleet that is gathered now and then (sync retire): they are joined and forked again; only
+ * where that is refused the obsolete one's identity is given up, and its share never comes back. A fleet that can never be
+ * gathered goes on longer if it is given up early, wherever `both` would have more id strings (ebbmuslin_room / 100) than `newer`. */
 static uint64_t met(const stamp *newer, const stamp *older, stamp *zero, stamp *one) {
     stamp both;
-    uint64_t most = ebbmuslin_room(newer->bytes, newer->len) / 100;
-    if (!EBBMUSLIN_IS_REFUSED(joined(newer, older, &both)) && ebbmuslin_room(both.bytes, both.len) / 100 <= most &&
-        !EBBMUSLIN_IS_REFUSED(forked(&both, zero, one)))
-        return zero->len;
+    if (!EBBMUSLIN_IS_REFUSED(joined(newer, older, &both)) && !EBBMUSLIN_IS_REFUSED(forked(&both, zero, one))) return zero->len;
     return forked(newer, zero, one);
 }
 
@@ -210,8 +208,8 @@ void anew(folder *at, const char *file, folder *other) {
     hand_over(at, other, &c, &(record){.of = now});
 }
 
-/* The other's copy is given back: its identity comes here, a join, and its file and stamp leave. Only where the two are equal, so that
- * what leaves stands here. That is how a fleet is gathered; the file can be copied anew afterwards, with short stamps. */
+/* The other's copy is given back: its identity comes here, a join, and its file and stamp leave. Only where all its edits are here, so
+ * that nothing is lost. That is how a fleet is gathered; the file can be copied anew afterwards, with short stamps. */
 void retire(folder *at, const char *file, folder *other) {
     record a, b;
     need_name(file);
@@ -221,7 +219,9 @@ void retire(folder *at, const char *file, folder *other) {
     need_reported(other, file, &b);
     uint64_t verdict = compared(&a.stamp, &b.stamp);
     done(verdict, file);
-    if (verdict != EBBMUSLIN_EQUAL || !is_same(a.of, b.of)) fail(file, "the two are not equal: take or settle them first, so that nothing is lost");
+    if (verdict == EBBMUSLIN_OBSOLETE || verdict == EBBMUSLIN_CONFLICT)
+        fail(file, "the one in %s has edits that are not here: take or settle it first, so that nothing is lost", shown(other->name));
+    if (verdict == EBBMUSLIN_EQUAL && !is_same(a.of, b.of)) fail(file, "equal by their stamps, and the files differ: settle them");
     change c = {.file = file, .had = true, .was = b.of, .leaves = true, .from.of = a.of, .to.of = b.of};
     done(joined(&a.stamp, &b.stamp, &c.from.stamp), file);
     carry_out(at, other, &c);

@@ -16,7 +16,7 @@ static const char usage[] =
     "  sync take   FOLDER FILE OTHER    does what check advises: the newer of the two goes to the other side\n"
     "  sync settle FOLDER FILE OTHER    the file in FOLDER now has what both sides had: both folders get it\n"
     "  sync anew   FOLDER FILE OTHER    the two carry one identity: what stands in FOLDER goes to both, OTHER's stamp is thrown away\n"
-    "  sync retire FOLDER FILE OTHER    OTHER gives its copy back, which is equal: its identity goes to FOLDER, its file and stamp leave\n";
+    "  sync retire FOLDER FILE OTHER    OTHER's copy, equal or obsolete, is given back: its identity goes to FOLDER, its file leaves\n";
 
 typedef struct {
     const char *name;
