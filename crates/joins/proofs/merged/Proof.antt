@@ -38,7 +38,7 @@ module _ (c : tie.After-join) where
   tells =
       records-joined (start .args .t1) (start .args .t2) (start .pre .0) (start .pre .1) (c .join .result) _ _
       (c .join .ensures .0 ∙ (λ n. joinedCounts (p n) (q n) (r n) (s n) zeros zeros)) (c .join .ensures .1 ∙ (λ n. joinedUpdateIn (p n) (q n) (r n) (s n) zeros zeros))
-      (c .join .ensures .2 ∙ (λ n. joinedIdIn (q n) (s n) zeros))
+      (c .join .ensures .2 ∙ (λ n. joinedIdIn (p n) (q n) (r n) (s n) zeros zeros))
     where
       zeros : List ℕ
       zeros = replicate 32 0
