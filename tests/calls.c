@@ -46,6 +46,18 @@ static void differ(const char *call, const bytes *x, const bytes *y, uint64_t go
     exit(1);
 }
 
+/* Early warning: the room that a stamp has left is the same by both, refused stamps too, and the stamp is left alone. */
+static uint64_t rooms[2], most_room;
+
+static void same_room(const bytes *x) {
+    bytes was = *x;
+    uint64_t got = ebbmuslin_room(x->b, x->len), want = second_room(x->b, x->len);
+    if (got != want) differ("room", x, x, got, want);
+    if (memcmp(x, &was, sizeof was)) differ("room changed its input", &was, &was, 0, 0);
+    rooms[got != 0]++;
+    if (got > most_room) most_room = got;
+}
+
 static void one_round(void) {
     bytes x, y, was_x, was_y, tmp;
     guarded p, q, r, s;
@@ -54,6 +66,8 @@ static void one_round(void) {
     was_x = x;
     was_y = y;
     uint64_t got, want;
+    same_room(&x);
+    same_room(&y);
 
     size_t n = room(second_update(x.b, x.len, tmp.b, BUFFER));
     fill(&p, &q);
@@ -138,6 +152,18 @@ static void limits(void) {
     expect("17 strings that become 16", ebbmuslin_join(x.b, x.len, y.b, y.len, p, sizeof p), (13 + 15 * 11 + 10 + 7) / 8);
 }
 
+/* Known answers: the first stamp, [e|00,1], 3 strings of 16 digits (316), the largest, and refusals 1 and 2. */
+static void known_rooms(void) {
+    bytes x = with_ids(3, 16, 7, 5), y = with_ids(16, 24, 0, 2), z = with_ids(2, 6, 4, 1);
+    expect("room of nothing", ebbmuslin_room(NULL, 0), 0);
+    expect("room of the first", ebbmuslin_room((const uint8_t *)"\0\0\0", 3), 100);
+    expect("room of [e|00,1]", ebbmuslin_room((const uint8_t *)"\x00\x08\x80\xc0", 4), 202);
+    expect("room of 3 strings of 16", ebbmuslin_room(x.b, x.len), 316);
+    expect("room of 16 strings of 24", ebbmuslin_room(y.b, y.len), 1624);
+    expect("room of bytes cut short", ebbmuslin_room(x.b, x.len - 1), 0);
+    expect("room of two siblings", ebbmuslin_room(z.b, z.len), 0);
+}
+
 int main(int argc, char **argv) {
     uint64_t rounds = argc > 1 ? strtoull(argv[1], NULL, 10) : 100000;
     seed(argc > 2 ? strtoull(argv[2], NULL, 10) : 1);
@@ -145,6 +171,7 @@ int main(int argc, char **argv) {
     largest();
     nulls();
     limits();
+    known_rooms();
     for (uint64_t k = 0; k < rounds; k++) {
         if (k % 64 == 0) start_pool();
         for (int j = 0; j < 3; j++) evolve();
@@ -155,6 +182,8 @@ int main(int argc, char **argv) {
         printf("%d answers were never met\n", missing);
         return 1;
     }
+    printf("room: %" PRIu64 " stamps, %" PRIu64 " refused, at most %" PRIu64 "\n", rooms[1], rooms[0], most_room);
+    if (rounds >= 50000 && (rooms[0] == 0 || rooms[1] == 0 || most_room != 1624)) return 1;
     printf("%" PRIu64 " rounds, no difference\n", rounds);
     return 0;
 }

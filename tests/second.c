@@ -482,3 +482,12 @@ uint64_t second_table_spare(const record *t, size_t n, size_t a) {
     }
     return 0;
 }
+
+uint64_t second_room(const uint8_t *s, size_t s_len) {
+    stamp x;
+    if (read_stamp(s, s_len, &x)) return 0;
+    size_t most = 0;
+    for (int k = 0; k < x.i.n; k++)
+        if (strlen(x.i.s[k]) > most) most = strlen(x.i.s[k]);
+    return 100 * (uint64_t)x.i.n + most;
+}
