@@ -105,7 +105,12 @@ static folder *opened(const char *name, bool is_known) {
 folder *enter(const char *name, bool is_known) {
     folder *f = opened(name, is_known);
     for (folder *g = entered; g; g = g->next)
-        if (strcmp(g->path, f->path) == 0) return close(f->fd), g;
+        if (strcmp(g->path, f->path) == 0) {
+            close(f->fd);
+            free(f->path);
+            free(f);
+            return g;
+        }
     step("lock");
     int lock = openat(f->fd, LOCK, O_RDWR | O_CLOEXEC | O_NOFOLLOW | (is_known ? 0 : O_CREAT), 0666);
     if (lock < 0 && is_known && errno == ENOENT)
