@@ -2,7 +2,8 @@
  *
  * 1. The file is staged in `to`, under a name of ours.
  * 2. What is to be done is written down in `to`, and then, in the same words, in `from`. From there on it counts.
- * 3. The stamp in `to` is taken away, the staged file put in place, the new stamp stored in `from`, then that in `to`.
+ * 3. The stamp in `to` is taken away, the staged file put in place, the new stamp stored in `from`, then that in `to`; or, of a
+ *    copy that leaves, the file in `to` is taken away.
  * 4. The note is taken away in `from`, then in `to`.
  *
  * So of a fork the branch that stays is stored before the other arrives, of a join the one input is gone before the result
@@ -20,6 +21,7 @@
 
 enum { MAGIC, FROM, TO, NAME, WAS, FROM_RECORD, TO_RECORD, SUM, FIELDS };
 static const char magic[] = "ebbmuslin sync change 1";
+static char NONE[] = "none"; /* in place of what a file was, or of a record */
 
 /* A note: fields that each end in a zero byte, since a path may hold anything else; the last is the hash of those before. */
 typedef struct {
@@ -30,8 +32,8 @@ typedef struct {
 
 static note note_of(const folder *from, const folder *to, const change *c) {
     note w = {.bytes = NULL};
-    char *was = c->had ? text("%" PRIu64 " %" PRIx64, c->was.size, c->was.hash) : text("none");
-    const char *field[] = {magic, from->path, to->path, c->file, was, record_text(&c->from), record_text(&c->to)};
+    char *was = c->had ? text("%" PRIu64 " %" PRIx64, c->was.size, c->was.hash) : NONE;
+    const char *field[] = {magic, from->path, to->path, c->file, was, record_text(&c->from), c->leaves ? NONE : record_text(&c->to)};
     for (int k = 0; k < SUM; k++) {
         size_t n = strlen(field[k]) + 1;
         if (!(w.bytes = realloc(w.bytes, w.n + n + 32))) abort();
@@ -60,12 +62,15 @@ static bool get_note(const folder *at, note *w) {
 static change change_of(const note *w) {
     change c = {.file = w->field[NAME]};
     c.had = sscanf(w->field[WAS], "%" SCNu64 " %" SCNx64, &c.was.size, &c.was.hash) == 2;
-    if (!record_of(w->field[FROM_RECORD], &c.from) || !record_of(w->field[TO_RECORD], &c.to))
+    c.leaves = strcmp(w->field[TO_RECORD], NONE) == 0;
+    if (c.leaves) c.to.of = c.was;
+    if (!record_of(w->field[FROM_RECORD], &c.from) || (!c.leaves && !record_of(w->field[TO_RECORD], &c.to)))
         fail(c.file, "the note of a command that was cut off has no records: nothing is done");
     return c;
 }
 
-/* A file that is to be replaced is still what it was; an edit since then is not overwritten. */
+/* A file that is to be replaced is still what it was; an edit since then is not overwritten. (What an editor writes between this look
+ * and the rename, a moment later, no program can see without the editor's help.) */
 static void guard(const folder *to, const change *c) {
     content now;
     int found = look(to, c->file, &now);
@@ -81,18 +86,19 @@ static void finish(folder *from, folder *to, const change *c) {
     int found = look(to, STAGED, &staged);
     if (found < 0) fail(to->name, "%s cannot be read: %s", STAGED, strerror(errno));
     if (found && !is_same(staged, c->to.of)) fail(to->name, "%s is not what a command that was cut off put there", STAGED);
-    if (found) guard(to, c);
+    if (found || c->leaves) guard(to, c);
     char *stamp = stamp_file(c->file);
     drop(to, stamp);
     free(stamp);
-    if (found) put_in_place(to, c->file);
+    if (found) put_in_place(to, c->file, c->had);
     put_record(from, c->file, &c->from);
-    put_record(to, c->file, &c->to);
+    if (c->leaves) drop(to, c->file);
+    else put_record(to, c->file, &c->to);
     drop(from, CHANGE);
     drop(to, CHANGE);
 }
 
-/* The file is staged already. */
+/* The file is staged already, unless the copy leaves. */
 void carry_out(folder *from, folder *to, const change *c) {
     guard(to, c);
     note w = note_of(from, to, c);

@@ -11,9 +11,10 @@ const char *advice(uint64_t refused) {
     switch (refused) {
     case EBBMUSLIN_MALFORMED: return "a stamp is damaged: fetch it again from where it came, or run sync anew with the sound folder first";
     case EBBMUSLIN_UNLAWFUL: return "a stamp says what no copy's stamp says: do not use this copy; run sync anew with the sound folder first";
-    case EBBMUSLIN_LONG: return "this copy was copied on too often: settle it with another copy first (docs/FLEETS.md)";
+    case EBBMUSLIN_LONG: return "this copy was copied on too often: have copies given back first, by sync retire (docs/FLEETS.md)";
     case EBBMUSLIN_MANY:
-        return "the two cannot become one yet: settle copies that were made from each other first (docs/FLEETS.md), or give one up by sync anew";
+        return "the two cannot become one yet: have copies that were made from each other given back first, by sync retire (docs/FLEETS.md), or "
+               "give one of the two up, by sync anew";
     case EBBMUSLIN_OVERLAP:
         return "two copies carry one identity: a folder was copied whole, stamps and all; neither side may replace the other: put what shall "
                "stand into one of them, and run sync anew with that folder first";
@@ -28,8 +29,8 @@ const char *advice(uint64_t refused) {
 bool warn(const char *file, const stamp *s) {
     uint64_t room = ebbmuslin_room(s->bytes, s->len), strings = room / 100, digits = room % 100;
     if (strings < 8 && digits < 18) return false;
-    printf("%s: its identity is in %" PRIu64 " pieces (16 are the most), the longest of %" PRIu64 " digits (24 are the most): gather the copies of this "
-           "file in one place soon, by sync settle of each pair that was made from each other (docs/FLEETS.md)\n", shown(file), strings, digits);
+    printf("%s: its identity is in %" PRIu64 " pieces (16 are the most), the longest of %" PRIu64 " digits (24 are the most): have copies of this file "
+           "given back soon, by sync retire, and copy it anew (docs/FLEETS.md)\n", shown(file), strings, digits);
     return true;
 }
 
@@ -59,15 +60,13 @@ static uint64_t joined(const stamp *s, const stamp *t, stamp *out) {
 
 static uint64_t compared(const stamp *s, const stamp *t) { return ebbmuslin_compare(s->bytes, s->len, t->bytes, t->len); }
 
-/* The stamps of two copies that meet, where one is obsolete: which call is used, and so what it costs, is decided here alone.
- * docs/FLEETS.md's rule of thumb: they are joined where the result has no more id strings than the newer one, and forked again;
- * else the obsolete one's identity is given up, which costs its share for good, and the newer one is forked. */
+/* The stamps of two copies that meet, where one is obsolete: which calls are made, and so what it costs, is decided here alone.
+ * docs/FLEETS.md's rule of thumb, for a fleet that is gathered now and then (sync retire): they are joined and forked again; only
+ * where that is refused the obsolete one's identity is given up, and its share never comes back. A fleet that can never be
+ * gathered goes on longer if it is given up early, wherever `both` would have more id strings (ebbmuslin_room / 100) than `newer`. */
 static uint64_t met(const stamp *newer, const stamp *older, stamp *zero, stamp *one) {
     stamp both;
-    uint64_t most = ebbmuslin_room(newer->bytes, newer->len) / 100;
-    if (!EBBMUSLIN_IS_REFUSED(joined(newer, older, &both)) && ebbmuslin_room(both.bytes, both.len) / 100 <= most &&
-        !EBBMUSLIN_IS_REFUSED(forked(&both, zero, one)))
-        return zero->len;
+    if (!EBBMUSLIN_IS_REFUSED(joined(newer, older, &both)) && !EBBMUSLIN_IS_REFUSED(forked(&both, zero, one))) return zero->len;
     return forked(newer, zero, one);
 }
 
@@ -207,4 +206,24 @@ void anew(folder *at, const char *file, folder *other) {
     done(updated(&a.stamp, &after), file);
     done(forked(&after, &c.from.stamp, &c.to.stamp), file);
     hand_over(at, other, &c, &(record){.of = now});
+}
+
+/* The other's copy is given back: its identity comes here, a join, and its file and stamp leave. Only where all its edits are here, so
+ * that nothing is lost. That is how a fleet is gathered; the file can be copied anew afterwards, with short stamps. */
+void retire(folder *at, const char *file, folder *other) {
+    record a, b;
+    need_name(file);
+    need_record(at, file, &a);
+    need_record(other, file, &b);
+    need_reported(at, file, &a);
+    need_reported(other, file, &b);
+    uint64_t verdict = compared(&a.stamp, &b.stamp);
+    done(verdict, file);
+    if (verdict == EBBMUSLIN_OBSOLETE || verdict == EBBMUSLIN_CONFLICT)
+        fail(file, "the one in %s has edits that are not here: take or settle it first, so that nothing is lost", shown(other->name));
+    if (verdict == EBBMUSLIN_EQUAL && !is_same(a.of, b.of)) fail(file, "equal by their stamps, and the files differ: settle them");
+    change c = {.file = file, .had = true, .was = b.of, .leaves = true, .from.of = a.of, .to.of = b.of};
+    done(joined(&a.stamp, &b.stamp, &c.from.stamp), file);
+    carry_out(at, other, &c);
+    warn(file, &c.from.stamp);
 }

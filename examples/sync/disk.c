@@ -190,9 +190,12 @@ static void flush_file(const folder *at, const char *name, int fd) {
     if (fsync(fd) != 0 || close(fd) != 0) fail_with(at, name, "it cannot be flushed to disk");
 }
 
-static void rename_in(const folder *at, const char *from, const char *to) {
+/* Where nothing may be replaced the system sees to it, if the file system can; else we have looked just before. */
+static void rename_in(const folder *at, const char *from, const char *to, bool replaces) {
     step("rename");
-    if (renameat(at->fd, from, at->fd, to) != 0) fail_with(at, to, "it cannot be put in place");
+    int failed = renameat2(at->fd, from, at->fd, to, replaces ? 0 : RENAME_NOREPLACE);
+    if (failed && (errno == EINVAL || errno == ENOSYS)) failed = renameat(at->fd, from, at->fd, to);
+    if (failed) fail_with(at, to, "it cannot be put in place");
     flush_folder(at);
 }
 
@@ -201,7 +204,7 @@ void put(const folder *at, const char *name, const void *bytes, size_t n) {
     int fd = create(at, NEW);
     write_all(at, name, fd, bytes, n);
     flush_file(at, name, fd);
-    rename_in(at, NEW, name);
+    rename_in(at, NEW, name, true);
 }
 
 /* Takes a file away, if it is there. */
@@ -212,7 +215,7 @@ void drop(const folder *at, const char *name) {
 }
 
 /* The staged copy becomes the file of that name. */
-void put_in_place(const folder *at, const char *name) { rename_in(at, STAGED, name); }
+void put_in_place(const folder *at, const char *name, bool replaces) { rename_in(at, STAGED, name, replaces); }
 
 /* A copy of a file into the other folder, whole and on the disk, under the name of staged ones: what it holds. */
 content stage(const folder *from, const char *file, const folder *to) {

@@ -15,14 +15,15 @@ static const char usage[] =
     "  sync check  FOLDER OTHER         says how each file of the two folders stands\n"
     "  sync take   FOLDER FILE OTHER    does what check advises: the newer of the two goes to the other side\n"
     "  sync settle FOLDER FILE OTHER    the file in FOLDER now has what both sides had: both folders get it\n"
-    "  sync anew   FOLDER FILE OTHER    the two carry one identity: what stands in FOLDER goes to both, OTHER's stamp is thrown away\n";
+    "  sync anew   FOLDER FILE OTHER    the two carry one identity: what stands in FOLDER goes to both, OTHER's stamp is thrown away\n"
+    "  sync retire FOLDER FILE OTHER    OTHER's copy, equal or obsolete, is given back: its identity goes to FOLDER, its file leaves\n";
 
 typedef struct {
     const char *name;
     void (*act)(folder *at, const char *file, folder *other);
 } pair;
 
-static const pair pairs[] = {{"copy", copy}, {"take", take}, {"settle", settle}, {"anew", anew}};
+static const pair pairs[] = {{"copy", copy}, {"take", take}, {"settle", settle}, {"anew", anew}, {"retire", retire}};
 
 static void enter_both(const char *name, const char *other_name, folder **at, folder **other) {
     *at = enter(name, false);

@@ -48,7 +48,7 @@ int get(const folder *at, const char *name, char **bytes, size_t *n);
 int look(const folder *at, const char *name, content *c);
 void put(const folder *at, const char *name, const void *bytes, size_t n);
 void drop(const folder *at, const char *name);
-void put_in_place(const folder *at, const char *name);
+void put_in_place(const folder *at, const char *name, bool replaces);
 content stage(const folder *from, const char *file, const folder *to);
 
 /* ---- record.c */
@@ -72,11 +72,12 @@ void put_record(const folder *at, const char *file, const record *r);
 
 /* ---- change.c */
 
-/* The file goes from one folder to the other, and both get new records. */
+/* The file goes from one folder to the other, and both get new records; or the copy in the other leaves, file and stamp. */
 typedef struct {
     const char *file;
     bool had; /* whether `to` has a file of that name before, and what it holds */
     content was;
+    bool leaves;
     record from, to;
 } change;
 
@@ -91,6 +92,7 @@ void copy(folder *at, const char *file, folder *other);
 void take(folder *at, const char *file, folder *other);
 void settle(folder *at, const char *file, folder *other);
 void anew(folder *at, const char *file, folder *other);
+void retire(folder *at, const char *file, folder *other);
 int check(folder *at, folder *other);
 const char *advice(uint64_t refused);
 bool warn(const char *file, const stamp *s);

@@ -16,21 +16,21 @@ ghost use Rattle.rules.specs.declared.Verdict.the-variants.{Equal};
 ghost use Rattle.rules.specs.declared.Compared.the-variants.{Is};
 ghost use Rattle.stamps.specs.Lent.{name, stamp, Named};
 ghost use Rattle.walks.specs.Walks.{isLong};
-ghost use Rattle.packed.specs.Fits.{writtenNames};
+ghost use Rattle.writing.specs.Fits.{writtenNames};
 ghost use Rattle.calls.specs.Joins.{wroteJoin};
 ghost use Rattle.calls.specs.Keep.{keptIs};
 ghost use Rattle.rules.specs.Room.{roomNumber};
 use lengths::longest;
 use names::STRINGS;
-use packed::read_in;
-use packed::write_both;
-use packed::write_from;
+use reading::read_in;
 use rules::Answer;
 use rules::Compared;
 use rules::Refusal;
 use rules::Verdict;
 use rules::Written;
 use walks::is_long;
+use writing::write_both;
+use writing::write_from;
 
 // A buffer has room for the strings of two names.
 const ROOM: usize = 32;

@@ -19,7 +19,7 @@ use Rattle.rules.specs.declared.Refusal.{Refusal}
 use Rattle.rules.specs.declared.Answer.the-variants.{Done, Refused}
 use Rattle.names.proofs.Shape.{stored-full}
 use Rattle.stamps.proofs.Laws.{stored-few, stored-names}
-use Rattle.packed.proofs.Lent.{givenBy, read-is}
+use Rattle.reading.proofs.Lent.{givenBy, read-is}
 use Rattle.calls.proofs.Laws.{read-stored}
 use Rattle.calls.proofs.Longest.{longestIn, longest-few}
 use Rattle.calls.proofs.room.Statement.{statement}
