@@ -24,7 +24,7 @@ use Rattle.rules.specs.Promises.{Usual, UsualSlot, UsualCompared, UsualSpared, 
 use Rattle.rules.specs.declared.Verdict.{Verdict}
 use Rattle.rules.specs.declared.Verdict.the-variants.{Equal, Obsolete, Newer, Conflict}
 use Rattle.rules.specs.declared.Refusal.{Refusal}
-use Rattle.rules.specs.declared.Refusal.the-variants.{NoSlot, OneSlot, Full, Long, Many, Overlap, Unseen, Unfit}
+use Rattle.rules.specs.declared.Refusal.the-variants.{NoSlot, Full, Long, Overlap, Unseen, Unfit}
 use Rattle.rules.specs.declared.Answer.{Answer}
 use Rattle.rules.specs.declared.Answer.the-variants.{Done, Refused}
 use Rattle.rules.specs.declared.Compared.the-variants.{Is}

@@ -13,38 +13,19 @@ use Rattle.rules.specs.Limits.{narrow}
 use Rattle.rules.specs.Strings.{wordOf, strOf, isWord}
 use Rattle.rules.specs.Names.{Name, all}
 use Rattle.rules.specs.Stamps.{Stamp}
-use Rattle.rules.specs.Stored.{wordsOf, stored, isStored, blank}
+use Rattle.rules.specs.Stored.{wordsOf, stored, blank}
 use Rattle.rules.specs.Refusals.{first, many}
 use Rattle.rules.specs.Values.{given}
 use Rattle.rules.specs.declared.Words.{Words}
-use Rattle.rules.specs.declared.Record.{Record}
 use Rattle.rules.specs.declared.Given.{Given}
 use Rattle.rules.specs.declared.Refusal.the-variants.{Many}
 use Rattle.rules.specs.declared.Answer.the-variants.{Done, Refused}
 use Rattle.laws.proofs.Tests.{In, all-each}
 use Rattle.strings.proofs.Order.{word-is}
-use Rattle.stamps.proofs.Laws.{stored-names, stored-few}
-use Rattle.names.proofs.Shape.{stored-full}
 use Rattle.unions.specs.declared.Joined.{Joined}
 use Rattle.unions.proofs.Words.{strs}
 use Rattle.unions.proofs.Joining.{Told}
 use Rattle.joins.specs.Buffers.{words}
-
--- ---- a stored record
-
--- how many strings a name has, and how many words
-pub record Few (w : Words) : Type 0 where
-  pub few : w .count ≤ narrow .strings
-  pub full : length (w .words) ≡ narrow .strings
-
-pub names-few : (r : Record) → isStored narrow r ≡ true → Few (r .update) × Few (r .id)
-names-few r h =
-    let n = stored-names narrow r h in (
-      record { few = stored-few narrow (r .update) (n .0); full = stored-full narrow (r .update) (n .0) },
-      record { few = stored-few narrow (r .id) (n .1); full = stored-full narrow (r .id) (n .1) },
-    )
-
--- ---- the words of the join
 
 words-strs : (l : List ℕ) → ((w : ℕ) → In w l → isWord (narrow .digits) w ≡ true) → l ≡ map wordOf (strs l)
 words-strs [] h = refl

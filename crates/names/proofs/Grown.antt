@@ -10,6 +10,7 @@ use native.Mathlib.Numerals.{add-one}
 use native.Mathlib.Omega.{arith}
 use lib.Dec.{eqb}
 use lib.ListN.{length, getD, take, set, replicate, length-map}
+use lib.Seq.{take-all}
 use borrow.Author.Tests.{eqb-false}
 use Rattle.rules.specs.Limits.{Limits}
 use Rattle.rules.specs.Strings.{Str, _▹_, digit, wordOf}
@@ -71,7 +72,7 @@ take-front : (n : Name) (z : List ℕ) → take (length n) (map wordOf n ++ z) �
 take-front [] z = refl
 take-front (s ∷ n) z = ap (λ (l : List ℕ). wordOf s ∷ l) (take-front n z)
 
--- the counted words of a stored name whose strings leave room, grown over zeros
+-- the counted words of a stored name whose strings leave room for a digit more, grown over zeros
 pub grown-name : (L : Limits) → L .digits ≤ 58 → (n : Words) (d : Bool) → isStoredName L n ≡ true
     → any (λ t. eqb (length t) (L .digits)) (strsIn n) ≡ false
     → record { count = n .count; words = grownIn (digit d) (take (n .count) (n .words)) (replicate (L .strings) 0) } ≡ wordsOf L (append d (strsIn n))
@@ -90,3 +91,15 @@ grown-name L room n d h short =
     ∙ grown-zeros (digit d) (map wordOf m) (L .strings) (omega (arith, length-map m wordOf, parts .few))
     ∙ ap₂ (λ (l : List ℕ) (k : ℕ). l ++ replicate (L .strings - k) 0) (longer-words d m shorter) (length-map m wordOf ∙ sym same) in
     λ i. record { count = count i; words = words i }
+
+-- so what `grow` leaves in zeros is a branch's id
+pub grown-branch : (L : Limits) → L .digits ≤ 58 → (n : Words) (d : Bool) (l out : List ℕ) → isStoredName L n ≡ true
+    → any (λ t. eqb (length t) (L .digits)) (strsIn n) ≡ false → l ≡ take (n .count) (n .words)
+    → out ≡ grownIn (digit d) (take (L .strings) l) (replicate (L .strings) 0) → record { count = n .count; words = out } ≡ wordsOf L (append d (strsIn n))
+unfolding wordsOf
+grown-branch L room n d l out h short counted grown =
+    let few : length l ≤ L .strings =
+    omega (arith, ap length counted, take-few (n .count) (n .words), ap (λ (w : Words). w .count) (stored-name-is L n h), name-parts L (strsIn n) (stored-name L n h) .few) in
+    ap (λ (w : List ℕ). record { count = n .count; words = w })
+    (grown ∙ ap (λ (x : List ℕ). grownIn (digit d) x (replicate (L .strings) 0)) (take-all (L .strings) l few ∙ counted))
+    ∙ grown-name L room n d h short

@@ -16,6 +16,9 @@ use strings::is_word;
 // A name has at most so many strings.
 pub const STRINGS: usize = 16;
 
+// The union of two names has at most so many strings.
+pub const UNION: usize = 32;
+
 // Whether so many strings in these words would be the record of a name: never in fewer or more words than a record has.
 pub fn is_name_in(words: &[u64], count: usize) -> bool
     ensures { λ r. ⌜ r ≡ isStoredName narrow (record { count = count; words = now (words .entry) }) ⌝ }

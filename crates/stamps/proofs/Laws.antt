@@ -9,12 +9,11 @@ use Prim.Native.Nat.{ℕ, zero, suc, _+_, _*_, _-_, _%_, _^_, _≤_, _<_}
 use native.Mathlib.Numerals.{add-one}
 use native.Mathlib.Omega.{arith}
 use lib.Dec.{eqb}
-use lib.ListN.{length, getD, take, drop, set, replicate, length-map, length-replicate}
-use lib.Seq.{length-take-le}
+use lib.ListN.{length, getD, take, set, replicate, length-map, length-replicate}
 use borrow.Author.Tests.{eqb-false}
 use Rattle.rules.specs.Limits.{Limits, narrow}
-use Rattle.rules.specs.Strings.{Str, _▹_, digit, wordOf, strOf, isWord}
-use Rattle.rules.specs.Names.{Name, any, all, rising, isName, below}
+use Rattle.rules.specs.Strings.{Str, _▹_, digit, wordOf}
+use Rattle.rules.specs.Names.{Name, any, rising, isName, below}
 use Rattle.rules.specs.Stamps.{pair, isNone, lawful, append, update, fork}
 use Rattle.rules.specs.Stored.{wordsOf, stored, strsIn, held, sameWords, sameRecord, isStoredName, isStored, unlawful}
 use Rattle.rules.specs.Refusals.{first, long as tooLong}
@@ -23,18 +22,16 @@ use Rattle.rules.specs.declared.Words.{Words}
 use Rattle.rules.specs.declared.Record.{Record}
 use Rattle.rules.specs.declared.Refusal.the-variants.{Unlawful}
 use Rattle.rules.specs.declared.Answer.the-variants.{Done, Refused}
-use Rattle.laws.proofs.Tests.{no, and-left, and-right, In, any-none}
+use Rattle.laws.proofs.Tests.{and-left, and-right, In, any-none}
 use Rattle.laws.proofs.Bits.{digit-eqb}
 use Rattle.laws.proofs.Words.{word-length, word-lt, word-grown}
 use Rattle.laws.proofs.Shares.{grown-length}
 use Rattle.laws.proofs.Fork.{append-length}
-use Rattle.laws.proofs.Lawful.{name-parts}
+use Rattle.laws.proofs.Lawful.{Named, name-parts}
 use Rattle.laws.proofs.Stored.{stored-is, stored-name, stored-name-is}
 use Rattle.walks.specs.Walks.{strs, belowWalk, hasTwins, isLong}
 use Rattle.walks.proofs.Tells.{below-walk, twins, long}
-use Rattle.names.proofs.Laws.{strs-cons, strs-end}
 use Rattle.names.proofs.Shape.{stored-full, stored-words, stored-rising}
-use Rattle.stamps.specs.Lent.{name, Named}
 
 -- ---- a stored record
 
@@ -87,7 +84,7 @@ forked-is L r i0 i1 e l p q =
 -- ---- a stored name
 
 module _ (L : Limits) (n : Words) (h : isStoredName L n ≡ true) where
-  named : Rattle.laws.proofs.Lawful.Named L (strsIn n)
+  named : Named L (strsIn n)
   named = name-parts L (strsIn n) (stored-name L n h)
 
   pub stored-count : n .count ≡ length (strsIn n)
@@ -101,67 +98,46 @@ module _ (L : Limits) (n : Words) (h : isStoredName L n ≡ true) where
   unfolding wordsOf
   words-are = ap (λ (w : Words). w .words) (stored-name-is L n h)
 
-  pub stored-filled : 1 ≤ n .count
-  stored-filled = omega (arith, stored-count, named .filled)
-
   pub stored-few : n .count ≤ L .strings
   stored-few = omega (arith, stored-count, named .few)
 
-  -- the strings from i on: the one at i, and those from i + 1 on
-  pub stored-cons : (i : ℕ) → i < n .count → drop i (strsIn n) ≡ strOf (getD (n .words) i 0) ∷ drop (i + 1) (strsIn n)
-  stored-cons i l = strs-cons n (L .strings) (stored-full L n h) i (omega (arith, stored-few))
+-- ---- the walks over the words that are counted
 
-  pub stored-end : (i : ℕ) → n .count ≤ i → drop i (strsIn n) ≡ []
-  stored-end i l = strs-end n (L .strings) (stored-full L n h) i (omega (arith, stored-few))
+pub lent-room : (c : ℕ) (w : List ℕ) → isStoredName narrow (record { count = c; words = w }) ≡ true → c ≤ length w
+lent-room c w h = let n : Words = record { count = c; words = w } in omega (arith, stored-few narrow n h, stored-full narrow n h)
 
--- ---- the walks over lent words
+module _ (n : Words) where
+  abbrev counted : List ℕ
+  counted = take (n .count) (n .words)
 
-module _ (c : ℕ) (w : List ℕ) (h : Named c w) where
-  pub lent-room : c ≤ length w
-  lent-room = omega (arith, stored-few narrow (name c w) h, stored-full narrow (name c w) h)
-
-  lent-words : all (isWord (narrow .digits)) (take c w) ≡ true
-  lent-words = stored-words narrow (name c w) h
-
-  lent-rising : rising (strs (take c w)) ≡ true
+  lent-rising : isStoredName narrow n ≡ true → rising (strs counted) ≡ true
   unfolding strsIn
-  lent-rising = stored-rising narrow (name c w) h
+  lent-rising h = stored-rising narrow n h
 
-  pub lent-twins : hasTwins (take c w) ≡ not (isNone (pair (strsIn (name c w))))
+  pub lent-twins : isStoredName narrow n ≡ true → hasTwins counted ≡ not (isNone (pair (strsIn n)))
   unfolding strsIn
-  lent-twins = twins (take c w) lent-rising
+  lent-twins h = twins counted (lent-rising h)
 
-pub lent-long : (c : ℕ) (w : List ℕ) → isLong (take c w) ≡ any (λ t. eqb (length t) (narrow .digits)) (strsIn (name c w))
+  pub lent-long : isLong counted ≡ any (λ t. eqb (length t) (narrow .digits)) (strsIn n)
+  unfolding strsIn
+  lent-long = long counted
+
+pub lent-below : (m n : Words) → isStoredName narrow m ≡ true → isStoredName narrow n ≡ true → belowWalk (counted m) (counted n) ≡ below (strsIn m) (strsIn n)
 unfolding strsIn
-lent-long c w = long (take c w)
-
-module _ (mc : ℕ) (m : List ℕ) (nc : ℕ) (n : List ℕ) (h : Named mc m) (k : Named nc n) where
-  pub lent-below : belowWalk (take mc m) (take nc n) ≡ below (strsIn (name mc m)) (strsIn (name nc n))
-  unfolding strsIn
-  lent-below =
-      below-walk (narrow .digits) (omega arith) (take mc m) (take nc n) (lent-words mc m h) (lent-words nc n k) (lent-rising mc m h) (lent-rising nc n k)
+lent-below m n h k =
+    below-walk (narrow .digits) (omega arith) (counted m) (counted n) (stored-words narrow m h) (stored-words narrow n k) (lent-rising m h) (lent-rising n k)
 
 -- ---- two stamps
 
--- as many words as are counted, where there are so many
-pub front-count : (c : ℕ) (w : List ℕ) → c ≤ length w → c ≡ length (take c w)
-front-count c w h = sym (length-take-le c w h)
-
--- a lawful stamp's counts are within its words
-pub lawful-room : (r : Record) → isStored narrow r ≡ true → (r .update .count ≤ length (r .update .words)) × (r .id .count ≤ length (r .id .words))
-lawful-room r h =
-    let n = stored-names narrow r h in
-    (lent-room (r .update .count) (r .update .words) (n .0), lent-room (r .id .count) (r .id .words) (n .1))
-
 -- where one is not lawful, that is what they are refused for
-pub not-both : (L : Limits) (a b : Record) → (isStored L a && isStored L b) ≡ false → Refused Unlawful ≡ first (meeting L a b [])
-unfolding first unlawful
-not-both L a b e = by (isStored L a) (isStored L b) refl refl e
-  where
-    by : (x y : Bool) → isStored L a ≡ x → isStored L b ≡ y → (x && y) ≡ false → Refused Unlawful ≡ first (meeting L a b [])
-    by true true p q e = absurd (no (sym e))
-    by true false p q e = rw (p, q)
-    by false y p q e = rw p
+module _ (L : Limits) (a b : Record) where
+  pub first-unlawful : isStored L a ≡ false → Refused Unlawful ≡ first (meeting L a b [])
+  unfolding first unlawful
+  first-unlawful p = rw p
+
+  pub second-unlawful : isStored L a ≡ true → isStored L b ≡ false → Refused Unlawful ≡ first (meeting L a b [])
+  unfolding first unlawful
+  second-unlawful p q = rw (p, q)
 
 -- ---- changed one after the other
 

@@ -18,11 +18,11 @@ pub struct Joined {
 // The join of the stamps [u|i] and [v|j]: the union of both ids, reduced, at the front of `id`, and the union of both updates, lifted beside it, at the
 // front of `update`; zeros in the place of what reduction takes away, and the rest of both buffers stays. Gives how many words each has.
 // Each buffer has to have room for the words of both names. Where one has not, it is told, and both stay as they are.
-pub fn join(
-    u: &[u64],
-    i: &[u64],
-    v: &[u64],
-    j: &[u64],
+pub fn join<'a>(
+    u: &'a [u64],
+    i: &'a [u64],
+    v: &'a [u64],
+    j: &'a [u64],
     update: &mut [u64],
     id: &mut [u64],
 ) -> Joined

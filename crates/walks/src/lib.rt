@@ -13,7 +13,7 @@ use strings::are_siblings;
 use strings::begins;
 
 // What two lawful stamps that meet are refused for: 8, then 9.
-pub fn meet(u: &[u64], i: &[u64], v: &[u64], j: &[u64]) -> Answer
+pub fn meet<'a>(u: &'a [u64], i: &'a [u64], v: &'a [u64], j: &'a [u64]) -> Answer
     ensures { λ r. ⌜ r ≡ meetWalk (now (u .entry)) (now (i .entry)) (now (v .entry)) (now (j .entry)) ⌝ }
 {
     if is_overlapping(i, j) {
@@ -29,7 +29,7 @@ pub fn meet(u: &[u64], i: &[u64], v: &[u64], j: &[u64]) -> Answer
 }
 
 // How the first stands to the second, or what the two are refused for.
-pub fn compare(u: &[u64], i: &[u64], v: &[u64], j: &[u64]) -> Compared
+pub fn compare<'a>(u: &'a [u64], i: &'a [u64], v: &'a [u64], j: &'a [u64]) -> Compared
     ensures { λ r. ⌜ r ≡ compareWalk (now (u .entry)) (now (i .entry)) (now (v .entry)) (now (j .entry)) ⌝ }
 {
     let m = meet(u, i, v, j);

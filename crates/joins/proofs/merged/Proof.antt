@@ -1,39 +1,80 @@
 -- `joins::merged` meets its contract: the first words of both buffers are those of the join, and its record holds them where a name has room.
 -- Assumes nothing.
+use mathlib.Core.Path.{_≡_, _∙_}
+use mathlib.Core.List.{List}
+use Prim.Native.Nat.{ℕ}
 use native.Mathlib.Omega.{arith}
+use lib.ListN.{take, replicate}
 use borrow.Author.Needs.{needs}
 use Rattle.rules.specs.Stamps.{Stamp, join}
 use Rattle.rules.specs.Stored.{held}
+use Rattle.unions.specs.Unions.{joinedCounts, joinedUpdateIn, joinedIdIn}
 use Rattle.unions.proofs.Joining.{Told, records-joined}
-use Rattle.joins.proofs.Joining.{names-few, too-many, few-enough}
+use Rattle.joins.proofs.Joining.{too-many, few-enough}
 use Rattle.joins.proofs.merged.Statement.{statement}
 use Rattle.joins.proofs.merged.Tie as tie
 
 -- the join in the buffers
-module _ (c : tie.After-join-in) where
+module _ (c : tie.After-join) where
+  abbrev j : tie.After-counted4
+  j = c .before .before .before
+
+  abbrev v : tie.After-counted3
+  v = j .before .before .before
+
+  abbrev i : tie.After-counted2
+  i = v .before .before .before .before
+
+  abbrev u : tie.After-counted
+  u = i .before .before .before
+
   abbrev start : tie.Start
-  start = c .before .before .before .before .before .before .before .before .before .before .before .before .before
+  start = u .before .before .before .before
 
   abbrev end : Stamp
   end = join (held (start .args .t1)) (held (start .args .t2))
 
-  told : Told end (c .join-in .result) (c .join-in .last .1 .1 .1 .1 .1 .1 .1 .1 .0) (c .join-in .last .1 .1 .1 .1 .1 .1 .1 .1 .1 .0)
-  told =
-      records-joined (start .args .t1) (start .args .t2) (start .pre .0) (start .pre .1) (c .join-in .result) _ _
-      (c .join-in .ensures .0) (c .join-in .ensures .1) (c .join-in .ensures .2)
+  tells : Told end (c .join .result) (c .join .last .1 .1 .1 .1 .0) (c .join .last .1 .1 .1 .1 .1 .0)
+  tells =
+      records-joined (start .args .t1) (start .args .t2) (start .pre .0) (start .pre .1) (c .join .result) _ _
+      (c .join .ensures .0 ∙ (λ n. joinedCounts (p n) (q n) (r n) (s n) zeros zeros)) (c .join .ensures .1 ∙ (λ n. joinedUpdateIn (p n) (q n) (r n) (s n) zeros zeros))
+      (c .join .ensures .2 ∙ (λ n. joinedIdIn (p n) (q n) (r n) (s n) zeros zeros))
+    where
+      zeros : List ℕ
+      zeros = replicate 32 0
 
-slice-aggregate-join-in : tie.Need-slice-aggregate-join-in
-slice-aggregate-join-in c = search needs
+      p : u .counted .result .now ≡ take (start .args .t1 .update .count) (start .args .t1 .update .words)
+      p = u .counted .ensures .1
 
-slice-aggregate-join-in-2 : tie.Need-slice-aggregate-join-in-2
-slice-aggregate-join-in-2 c = search needs
+      q : i .counted2 .result .now ≡ take (start .args .t1 .id .count) (start .args .t1 .id .words)
+      q = i .counted2 .ensures .1
 
-join-in-requires : tie.Need-join-in-requires
-join-in-requires c κs =
-    let g = c .before .before .before .before .before .before .before .before .before .before .before .before in
-    let p = names-few (g .args .t1) (g .pre .0) in
-    let q = names-few (g .args .t2) (g .pre .1) in
-    (omega (arith, p, q), omega (arith, p, q), omega (arith, p, q), omega (arith, p, q))
+      r : v .counted3 .result .now ≡ take (start .args .t2 .update .count) (start .args .t2 .update .words)
+      r = v .counted3 .ensures .1
+
+      s : j .counted4 .result .now ≡ take (start .args .t2 .id .count) (start .args .t2 .id .words)
+      s = j .counted4 .ensures .1
+
+counted-requires : tie.Need-counted-requires
+counted-requires c κs = search needs
+
+counted-requires-2 : tie.Need-counted-requires-2
+counted-requires-2 c κs = search needs
+
+counted-requires-3 : tie.Need-counted-requires-3
+counted-requires-3 c κs = search needs
+
+counted-requires-4 : tie.Need-counted-requires-4
+counted-requires-4 c κs = search needs
+
+slice-aggregate-join : tie.Need-slice-aggregate-join
+slice-aggregate-join c = search needs
+
+slice-aggregate-join-2 : tie.Need-slice-aggregate-join-2
+slice-aggregate-join-2 c = search needs
+
+join-requires : tie.Need-join-requires
+join-requires c κs = search needs
 
 refused-requires : tie.Need-refused-requires
 refused-requires c κs = search needs
@@ -41,7 +82,7 @@ refused-requires c κs = search needs
 returns : tie.Need-returns
 returns c =
     let j = c .before .before .before .before .before in
-    too-many (end j) (j .join-in .result) _ _ (told j) (c .refused .result) (omega (arith, c .before .if1 .taken, told j .counts)) (c .refused .ensures)
+    too-many (end j) (j .join .result) _ _ (tells j) (c .refused .result) (omega (arith, c .before .if1 .taken, tells j .counts)) (c .refused .ensures)
 
 slice-aggregate-narrowed : tie.Need-slice-aggregate-narrowed
 slice-aggregate-narrowed c = search needs
@@ -49,7 +90,7 @@ slice-aggregate-narrowed c = search needs
 narrowed-requires : tie.Need-narrowed-requires
 narrowed-requires c κs =
     let j = c .before .before .before .before .before in
-    let t = told j in
+    let t = tells j in
     (omega (arith, t .counts, c .before .if1 .left), omega (arith, t .counts, t .fits, t .updateRoom))
 
 slice-aggregate-narrowed-2 : tie.Need-slice-aggregate-narrowed-2
@@ -59,7 +100,7 @@ narrowed-requires-2 : tie.Need-narrowed-requires-2
 narrowed-requires-2 c κs =
     let e = c .before .before .before in
     let j = e .before .before .before .before in
-    let t = told j in
+    let t = tells j in
     (omega (arith, t .counts, e .if1 .left), omega (arith, t .counts, t .fits, t .idRoom))
 
 returns-2 : tie.Need-returns-2
@@ -67,16 +108,20 @@ returns-2 c =
     let d = c .before .before in
     let e = d .before .before in
     let j = e .before .before .before .before in
-    few-enough (end j) (j .join-in .result) _ _ (told j) (d .narrowed .result) (c .narrowed2 .result) (omega (arith, e .if1 .left))
+    few-enough (end j) (j .join .result) _ _ (tells j) (d .narrowed .result) (c .narrowed2 .result) (omega (arith, e .if1 .left))
     (d .narrowed .ensures) (c .narrowed2 .ensures)
 
 pub merged-spec : {M : Type 1} → statement M
 merged-spec =
     tie.close
     (tie.spec
-    slice-aggregate-join-in
-    slice-aggregate-join-in-2
-    join-in-requires
+    counted-requires
+    counted-requires-2
+    counted-requires-3
+    counted-requires-4
+    slice-aggregate-join
+    slice-aggregate-join-2
+    join-requires
     refused-requires
     returns
     slice-aggregate-narrowed

@@ -1,14 +1,18 @@
 -- `stamps::fork` meets its contract: the tests in their order, a stored update kept as it is, and the id grown by 0 and by 1. Assumes nothing.
 use borrow.Author.Needs.{needs}
 use borrow.Author.Tests.{not-true, not-false}
-use mathlib.Core.Path.{_≡_, sym, _∙_}
+use mathlib.Core.Path.{_≡_, sym, ap, _∙_}
 use mathlib.Core.Bool.{Bool, true, false}
+use mathlib.Core.List.{List}
 use native.Mathlib.Omega.{arith}
+use Prim.Native.Nat.{ℕ}
 use lib.Dec.{eqb}
-use lib.ListN.{length}
+use lib.ListN.{length, take, replicate}
 use Rattle.rules.specs.Limits.{Limits, narrow}
+use Rattle.rules.specs.Strings.{digit}
 use Rattle.rules.specs.Names.{any}
-use Rattle.rules.specs.Stored.{strsIn, held, isStored, unlawful, blank}
+use Rattle.rules.specs.Stamps.{append}
+use Rattle.rules.specs.Stored.{wordsOf, strsIn, held, isStored, unlawful, blank}
 use Rattle.rules.specs.Refusals.{first, long}
 use Rattle.rules.specs.Values.{forked}
 use Rattle.rules.specs.declared.Record.{Record}
@@ -16,7 +20,10 @@ use Rattle.rules.specs.declared.Forked.{Forked}
 use Rattle.rules.specs.declared.Refusal.{Refusal}
 use Rattle.rules.specs.declared.Refusal.the-variants.{Unlawful, Long}
 use Rattle.rules.specs.declared.Answer.the-variants.{Refused}
-use Rattle.stamps.proofs.Laws.{stored-names, forked-is}
+use Rattle.walks.specs.Walks.{isLong}
+use Rattle.names.specs.Lent.{grownIn}
+use Rattle.names.proofs.Grown.{grown-branch}
+use Rattle.stamps.proofs.Laws.{stored-names, forked-is, lent-long}
 use Rattle.stamps.proofs.fork.Statement.{statement}
 use Rattle.stamps.proofs.fork.Tie as tie
 
@@ -36,6 +43,29 @@ module _ (L : Limits) (r : Record) where
   unfolding forked first unlawful long held
   then-refused f e l z = rw (e, l) (λ i. record { answer = z .0 i; zero = z .1 i; one = z .2 i })
 
+-- what was asked of the id before it grows: whether some string can grow no longer
+module _ (n : tie.After-is-long) where
+  abbrev k : tie.After-counted
+  k = n .before
+
+  abbrev e : tie.Else1
+  e = k .before .before .before .before
+
+  abbrev r : Record
+  r = e .before .before .before .before .before .before .before .args .t1
+
+  lawful : isStored narrow r ≡ true
+  lawful = sym (e .before .is-lawful-in .ensures) ∙ not-false _ (e .if1 .left)
+
+  long-is : n .is-long .result ≡ tooLong narrow r
+  long-is = n .is-long .ensures ∙ ap isLong (k .counted .ensures .1) ∙ lent-long (r .id)
+
+  grown : tooLong narrow r ≡ false → (d : Bool) (out : List ℕ)
+      → out ≡ grownIn (digit d) (take (narrow .strings) (k .counted .result .now)) (replicate (narrow .strings) 0)
+      → record { count = r .id .count; words = out } ≡ wordsOf narrow (append d (strsIn (r .id)))
+  grown short d out =
+      grown-branch narrow (omega arith) (r .id) d (k .counted .result .now) out (stored-names narrow r lawful .1) short (k .counted .ensures .1)
+
 is-lawful-in-requires : tie.Need-is-lawful-in-requires
 is-lawful-in-requires c κs = search needs
 
@@ -44,66 +74,45 @@ no-fork-requires c κs = search needs
 
 returns : tie.Need-returns
 returns c =
-    let a = c .before .before in
-    let g = a .before .before .before .before .before .before in
-    first-refused narrow (g .args .t1) (c .no-fork .result) (sym (a .is-lawful-in .ensures) ∙ not-true _ (c .before .if1 .taken)) (c .no-fork .ensures)
+    let l = c .before .before in
+    let g = l .before .before .before .before .before .before in
+    first-refused narrow (g .args .t1) (c .no-fork .result) (sym (l .is-lawful-in .ensures) ∙ not-true _ (c .before .if1 .taken)) (c .no-fork .ensures)
 
-long-in-requires : tie.Need-long-in-requires
-long-in-requires c κs =
-    let o = c .before .before .before in
-    let a = o .before in
-    let g = a .before .before .before .before .before .before in
-    let named = stored-names narrow (g .args .t1) (sym (a .is-lawful-in .ensures) ∙ not-false _ (o .if1 .left)) in
-    search (named .0, named .1)
+counted-requires : tie.Need-counted-requires
+counted-requires c κs = search needs
+
+is-long-requires : tie.Need-is-long-requires
+is-long-requires c κs = search needs
 
 no-fork-requires-2 : tie.Need-no-fork-requires-2
 no-fork-requires-2 c κs = search needs
 
 returns-2 : tie.Need-returns-2
 returns-2 c =
-    let l = c .before .before in
-    let o = l .before .before .before .before in
-    let a = o .before in
-    let g = a .before .before .before .before .before .before in
-    then-refused narrow (g .args .t1) (c .no-fork2 .result) (sym (a .is-lawful-in .ensures) ∙ not-false _ (o .if1 .left))
-    (sym (l .long-in .ensures) ∙ c .before .if2 .taken) (c .no-fork2 .ensures)
+    let n = c .before .before in
+    then-refused narrow (r n) (c .no-fork2 .result) (lawful n) (sym (long-is n) ∙ c .before .if2 .taken) (c .no-fork2 .ensures)
 
-grown-requires : tie.Need-grown-requires
-grown-requires c κs =
-    let n = c .before .before .before .before in
-    let l = n .before in
-    let o = l .before .before .before .before in
-    let a = o .before in
-    let g = a .before .before .before .before .before .before in (
-      stored-names narrow (g .args .t1) (sym (a .is-lawful-in .ensures) ∙ not-false _ (o .if1 .left)) .1,
-      sym (l .long-in .ensures) ∙ n .if2 .left,
-      omega arith,
-    )
-
-grown-requires-2 : tie.Need-grown-requires-2
-grown-requires-2 c κs =
-    let n = c .before .before .before .before .before .before .before .before in
-    let l = n .before in
-    let o = l .before .before .before .before in
-    let a = o .before in
-    let g = a .before .before .before .before .before .before in (
-      stored-names narrow (g .args .t1) (sym (a .is-lawful-in .ensures) ∙ not-false _ (o .if1 .left)) .1,
-      sym (l .long-in .ensures) ∙ n .if2 .left,
-      omega arith,
-    )
+grow-requires : tie.Need-grow-requires
+grow-requires c κs = search needs
 
 returns-3 : tie.Need-returns-3
 returns-3 c =
-    let k = c .before .before .before .before in
-    let n = k .before .before .before .before .before in
-    let l = n .before in
-    let o = l .before .before .before .before in
-    let a = o .before in
-    let g = a .before .before .before .before .before .before in
-    forked-is narrow (g .args .t1) (k .grown .result) (c .grown2 .result) (sym (a .is-lawful-in .ensures) ∙ not-false _ (o .if1 .left))
-    (sym (l .long-in .ensures) ∙ n .if2 .left) (k .grown .ensures) (c .grown2 .ensures)
+    let o = c .before in
+    let f = o .before .before .before in
+    let n = f .before in
+    let short = sym (long-is n) ∙ f .if2 .left in
+    forked-is narrow (r n) _ _ (lawful n) short (grown n short false _ (o .grow .ensures .0)) (grown n short true _ (o .grow .ensures .1))
 
 pub fork-spec : {M : Type 1} → statement M
 fork-spec =
     tie.close
-    (tie.spec is-lawful-in-requires no-fork-requires returns long-in-requires no-fork-requires-2 returns-2 grown-requires grown-requires-2 returns-3)
+    (tie.spec
+    is-lawful-in-requires
+    no-fork-requires
+    returns
+    counted-requires
+    is-long-requires
+    no-fork-requires-2
+    returns-2
+    grow-requires
+    returns-3)

@@ -7,8 +7,8 @@ use Rattle.rules.specs.Names.{below}
 use Rattle.rules.specs.Stamps.{isNone, pair}
 use Rattle.rules.specs.Stored.{strsIn, isStoredName, isStored}
 use Rattle.rules.specs.declared.Record.{Record}
-use Rattle.stamps.specs.Lent.{stamp}
-use Rattle.stamps.proofs.Laws.{stored-parts}
+use Rattle.walks.specs.Walks.{belowWalk, hasTwins}
+use Rattle.stamps.proofs.Laws.{stored-parts, lent-below, lent-twins}
 use Rattle.stamps.proofs.is_lawful_in.Statement.{statement}
 use Rattle.stamps.proofs.is_lawful_in.Tie as tie
 
@@ -36,11 +36,11 @@ module _ (r : Record) where
   not-below : Update true → Id true → Below false → false ≡ isStored narrow r
   not-below p q s = sym (stored-parts narrow r ∙ rw (p, q, s))
 
-  told : (b : Bool) → Update true → Id true → Below true → b ≡ not (isNone (pair (strsIn (r .id)))) → not b ≡ isStored narrow r
-  told b p q s e = ap not e ∙ not-not (isNone (pair (strsIn (r .id)))) ∙ sym (stored-parts narrow r ∙ rw (p, q, s))
+  twins-tell : (b : Bool) → Update true → Id true → Below true → b ≡ not (isNone (pair (strsIn (r .id)))) → not b ≡ isStored narrow r
+  twins-tell b p q s e = ap not e ∙ not-not (isNone (pair (strsIn (r .id)))) ∙ sym (stored-parts narrow r ∙ rw (p, q, s))
 
 abbrev given : tie.Start → Record
-given g = stamp (g .args .uc) (g .args .u .now) (g .args .ic) (g .args .i .now)
+given g = record { update = record { count = g .args .uc; words = g .args .u .now }; id = record { count = g .args .ic; words = g .args .i .now } }
 
 is-name-in-requires : tie.Need-is-name-in-requires
 is-name-in-requires c κs = search needs
@@ -48,37 +48,52 @@ is-name-in-requires c κs = search needs
 is-name-in-requires-2 : tie.Need-is-name-in-requires-2
 is-name-in-requires-2 c κs = search needs
 
-below-in-requires : tie.Need-below-in-requires
-below-in-requires c κs =
-    let i = c .before in
-    let u = i .before .before in
-    let p = sym (u .is-name-in .ensures) ∙ i .before .if1 .taken in
-    let q = sym (i .is-name-in2 .ensures) ∙ c .if2 .taken in
-    search (p, q)
+counted-requires : tie.Need-counted-requires
+counted-requires c κs = search needs
 
-twins-in-requires : tie.Need-twins-in-requires
-twins-in-requires c κs =
-    let i = c .before .before .before in
-    let u = i .before .before in
-    let p = sym (u .is-name-in .ensures) ∙ i .before .if1 .taken in
-    let q = sym (i .is-name-in2 .ensures) ∙ c .before .before .if2 .taken in
-    search (p, q)
+counted-requires-2 : tie.Need-counted-requires-2
+counted-requires-2 c κs = search needs
+
+is-below-requires : tie.Need-is-below-requires
+is-below-requires c κs = search needs
+
+has-twins-requires : tie.Need-has-twins-requires
+has-twins-requires c κs = search needs
+
+-- the answers of the calls before the walks, where both names are stored
+module _ (b : tie.After-is-below) where
+  abbrev id : tie.After-counted
+  id = b .before .before
+
+  abbrev i : tie.After-is-name-in2
+  i = id .before .before
+
+  abbrev u : tie.After-is-name-in
+  u = i .before .before
+
+  abbrev r : Record
+  r = given (u .before .before .before)
+
+  update-named : isStoredName narrow (r .update) ≡ true
+  update-named = sym (u .is-name-in .ensures) ∙ i .before .if1 .taken
+
+  id-named : isStoredName narrow (r .id) ≡ true
+  id-named = sym (i .is-name-in2 .ensures) ∙ id .before .if2 .taken
+
+  below-is : b .is-below .result ≡ below (strsIn (r .update)) (strsIn (r .id))
+  below-is =
+      b .is-below .ensures ∙ (λ n. belowWalk (b .before .counted2 .ensures .1 n) (id .counted .ensures .1 n))
+      ∙ lent-below (r .update) (r .id) update-named id-named
 
 returns : tie.Need-returns
 returns c =
     let b = c .before .before in
-    let i = b .before .before in
-    let u = i .before .before in
-    told (given (u .before .before .before)) (c .twins-in .result) (sym (u .is-name-in .ensures) ∙ i .before .if1 .taken)
-    (sym (i .is-name-in2 .ensures) ∙ b .before .if2 .taken) (sym (b .below-in .ensures) ∙ c .before .if3 .taken) (c .twins-in .ensures)
+    let n = id-named b in
+    twins-tell (r b) (c .has-twins .result) (update-named b) n (sym (below-is b) ∙ c .before .if3 .taken)
+    (c .has-twins .ensures ∙ ap hasTwins (id b .counted .ensures .1) ∙ lent-twins (r b .id) n)
 
 returns-2 : tie.Need-returns-2
-returns-2 c =
-    let b = c .before in
-    let i = b .before .before in
-    let u = i .before .before in
-    not-below (given (u .before .before .before)) (sym (u .is-name-in .ensures) ∙ i .before .if1 .taken)
-    (sym (i .is-name-in2 .ensures) ∙ b .before .if2 .taken) (sym (b .below-in .ensures) ∙ c .if3 .left)
+returns-2 c = let b = c .before in not-below (r b) (update-named b) (id-named b) (sym (below-is b) ∙ c .if3 .left)
 
 returns-3 : tie.Need-returns-3
 returns-3 c =
@@ -93,4 +108,15 @@ returns-4 c =
 
 pub is-lawful-in-spec : {M : Type 1} → statement M
 is-lawful-in-spec =
-    tie.close (tie.spec is-name-in-requires is-name-in-requires-2 below-in-requires twins-in-requires returns returns-2 returns-3 returns-4)
+    tie.close
+    (tie.spec
+    is-name-in-requires
+    is-name-in-requires-2
+    counted-requires
+    counted-requires-2
+    is-below-requires
+    has-twins-requires
+    returns
+    returns-2
+    returns-3
+    returns-4)
