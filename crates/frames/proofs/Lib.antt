@@ -5,4 +5,5 @@ pub mod Elems
 pub mod Lent
 pub mod Turns
 pub mod Hands
+pub mod Arrays
 pub mod Walk

@@ -1,47 +1,84 @@
--- `inputs::feed` meets its contract: with room for a command and a line for each byte, what gathering, running and printing leave is handed from the
--- one to the next (`fed-all`); without it nothing is touched. Assumes nothing.
 use borrow.Author.Needs.{needs}
-use native.Mathlib.Omega.{arith}
-use Rattle.inputs.proofs.Feeds.{fed-none, fed-short, fed-all}
 use Rattle.inputs.proofs.feed.Statement.{statement}
 use Rattle.inputs.proofs.feed.Tie as tie
+use Rattle.inputs.proofs.feed.Reads as reads
+use Rattle.inputs.proofs.feed.Lts as lts
+use Rattle.inputs.proofs.has_room.Reads as has-room-reads
+use Rattle.lines.proofs.gather.Reads as gather-reads
+use Rattle.lines.proofs.print.Reads as print-reads
+use Rattle.traces.proofs.run.Reads as run-reads
 
+-- src/lib.rt:46:9
+has-room-requires : tie.Need-has-room-requires
+has-room-requires c κs = search needs
+
+-- src/lib.rt:47:9
 returns : tie.Need-returns
-returns c =
-    let g = c .before .before .before .before .args in
-    fed-none (g .trace) (g .piece .now) (g .commands .now) (g .out .now) (omega (arith, c .if1 .taken))
+returns c = ?
 
-returns-2 : tie.Need-returns-2
-returns-2 c =
-    let g = c .before .before .before .before .before .args in
-    fed-short (g .trace) (g .piece .now) (g .commands .now) (g .out .now) (omega (arith, c .before .if1 .left)) (omega (arith, c .if2 .taken))
-
+-- src/lib.rt:55:9
 gather-requires : tie.Need-gather-requires
 gather-requires c κs = search needs
 
-run-in-requires : tie.Need-run-in-requires
-run-in-requires c κs = search needs
+-- src/lib.rt:56:15
+mul-end : tie.Need-mul-end
+mul-end c = ?
 
+-- src/lib.rt:57:29
+slice-relend-prefix-run : tie.Need-slice-relend-prefix-run
+slice-relend-prefix-run c = ?
+
+-- src/lib.rt:57:29
+slice-aggregate-run : tie.Need-slice-aggregate-run
+slice-aggregate-run c = ?
+
+-- src/lib.rt:57:9
+run-requires : tie.Need-run-requires
+run-requires c κs = search needs
+
+-- src/lib.rt:58:26
+slice-reshare-prefix-print : tie.Need-slice-reshare-prefix-print
+slice-reshare-prefix-print c = ?
+
+-- src/lib.rt:58:26
+slice-aggregate-print : tie.Need-slice-aggregate-print
+slice-aggregate-print c = ?
+
+-- src/lib.rt:58:9
 print-requires : tie.Need-print-requires
 print-requires c κs = search needs
 
+-- src/lib.rt:64:17
+sub-t29 : tie.Need-sub-t29
+sub-t29 c = ?
+
+-- src/lib.rt:39:1
 same-length : tie.Need-same-length
 same-length c = search needs
 
+-- src/lib.rt:39:1
 same-length-2 : tie.Need-same-length-2
 same-length-2 c = search needs
 
-returns-3 : tie.Need-returns-3
-returns-3 c =
-    let p = c .before .before .before in
-    let r = p .before .before .before .before .before in
-    let l = r .before .before .before .before in
-    let e = l .before .before .before .before in
-    let g = e .before .before .before .before .before .args in
-    fed-all (g .trace) (g .piece .now) (g .commands .now) (g .out .now) (l .gather .result) _ (r .run-in .result) _ (p .print .result) _
-    (omega (arith, e .before .if1 .left)) (omega (arith, e .if2 .left)) (l .gather .ensures .0) (l .gather .ensures .1)
-    (r .run-in .ensures .0) (r .run-in .ensures .1) (p .print .ensures .0) (p .print .ensures .1)
+-- src/lib.rt:39:1
+returns-2 : tie.Need-returns-2
+returns-2 c = ?
 
 pub feed-spec : {M : Type 1} → statement M
 feed-spec =
-    tie.close (tie.spec returns returns-2 gather-requires run-in-requires print-requires same-length same-length-2 returns-3)
+    tie.close
+    (tie.spec
+    has-room-requires
+    returns
+    gather-requires
+    mul-end
+    slice-relend-prefix-run
+    slice-aggregate-run
+    run-requires
+    slice-reshare-prefix-print
+    slice-aggregate-print
+    print-requires
+    sub-t29
+    same-length
+    same-length-2
+    returns-2)
