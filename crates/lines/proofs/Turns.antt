@@ -69,14 +69,14 @@ unfolding numbers
 numbers-length [] = refl
 numbers-length (c ∷ cs) = omega (arith, numbers-length cs)
 
-read-back : (cs : List Command) (l : List ℕ) → commandsIn (length cs) (numbers cs ++ l) ≡ cs
+read-back : (cs : List Command) → commandsIn (length cs) (numbers cs) ≡ cs
 unfolding commandsIn numbers
-read-back [] l = refl
-read-back (c ∷ cs) l = ap (λ (ds : List Command). c ∷ ds) (read-back cs l)
+read-back [] = refl
+read-back (c ∷ cs) = ap (λ (ds : List Command). c ∷ ds) (read-back cs)
 
--- commands stored at the front of a buffer are read back
-pub commands-back : (cs : List Command) (buffer : List ℕ) → commandsIn (length cs) (over (numbers cs) buffer) ≡ cs
-commands-back cs buffer = read-back cs (drop (length (numbers cs)) buffer)
+-- commands as numbers are read back
+pub held-back : (cs : List Command) → heldIn (numbers cs) ≡ cs
+held-back cs = let e : length (numbers cs) / 3 ≡ length cs = omega (arith, numbers-length cs) in rw e (read-back cs)
 
 pub gathers-all : (l : Unfinished) (p : Text) (buffer : List ℕ) → length p ≤ length buffer / 3
     → gathers l p buffer 0 ≡ (gathered l p buffer, gatheredIn l p buffer)
