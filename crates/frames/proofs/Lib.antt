@@ -6,4 +6,5 @@ pub mod Lent
 pub mod Turns
 pub mod Hands
 pub mod Arrays
+pub mod Values
 pub mod Walk
