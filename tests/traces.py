@@ -5,6 +5,7 @@ usage: traces.py [--seed N] COMMAND..   how the trace tool is run
        traces.py --self-test            wrong programs must be found out, the model itself must pass
 """
 import collections
+import concurrent.futures
 import contextlib
 import fcntl
 import io
@@ -377,12 +378,13 @@ def found_by(slip):
 def self_test():
     tests = collections.Counter()
     missed = []
-    for slip in ["none", *wrong.NAMES]:
-        found = found_by(slip)
-        tests.update(found)
-        print("%s: %s" % (slip, "found by " + ", ".join(found) if found else "passes"), flush=True)
-        if bool(found) != (slip != "none"):
-            missed.append(slip)
+    slips = ["none", *wrong.NAMES]
+    with concurrent.futures.ProcessPoolExecutor(os.cpu_count()) as pool:
+        for slip, found in zip(slips, pool.map(found_by, slips)):
+            tests.update(found)
+            print("%s: %s" % (slip, "found by " + ", ".join(found) if found else "passes"), flush=True)
+            if bool(found) != (slip != "none"):
+                missed.append(slip)
     if missed or set(tests) != {*PARTS, "examples"}:
         sys.exit("WRONG: judged wrongly: %s; found by %s" % (missed, dict(tests)))
     print("self-test: %d wrong programs, all found out (%s); the model passes"

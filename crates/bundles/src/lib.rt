@@ -6,7 +6,7 @@ ghost use Rattle.rules.specs.Stored.{blank};
 ghost use Rattle.rules.specs.Bundles.{frontEntry, readEntry};
 ghost use Rattle.rules.specs.declared.Answer.the-variants.{Refused};
 ghost use Rattle.bundles.specs.Places.{placed, Inside, Begins};
-use packed::BYTES;
+use layout::BYTES;
 use packed::read;
 use rules::Answer;
 use rules::Given;

@@ -14,6 +14,7 @@ use Rattle.calls.proofs.fork
 use Rattle.calls.proofs.join
 use Rattle.calls.proofs.compare
 use Rattle.calls.proofs.keep
+use Rattle.calls.proofs.room
 
 pub update-one-answer : OneAnswer update.ended (λ M 𝓤. update.clauses 𝓤) (λ M 𝓤. update.spec 𝓤)
 update-one-answer M 𝓤 H A mem run = (refl, λ κs a g h r s v w. both-say 𝓤 (λ e f. (agree (e .0) (f .0), λ i. (tt, (agree (e .1) (f .1) i, tt)))))
@@ -26,6 +27,9 @@ join-one-answer M 𝓤 H A mem run = (refl, λ κs a g h r s v w. both-say 𝓤 
 
 pub compare-one-answer : OneAnswer compare.ended (λ M 𝓤. compare.clauses 𝓤) (λ M 𝓤. compare.spec 𝓤)
 compare-one-answer M 𝓤 H A mem run = (refl, λ κs a g h r s v w. both-say 𝓤 (λ e f. (agree e f, refl)))
+
+pub room-one-answer : OneAnswer room.ended (λ M 𝓤. room.clauses 𝓤) (λ M 𝓤. room.spec 𝓤)
+room-one-answer M 𝓤 H A mem run = (refl, λ κs a g h r s v w. both-say 𝓤 (λ e f. (agree e f, refl)))
 
 -- what a caller sees of a slice: where it begins, and its bytes
 abbrev pub Shown : Type 0

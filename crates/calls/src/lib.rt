@@ -1,5 +1,7 @@
 // The packed calls: update, fork, join and compare on lent bytes, and which of two to keep.
 // Refusals come in the order 1 and 2 for the first stamp, 1 and 2 for the second, 8, 9, 6, 7, 10.
+mod lengths;
+
 ghost use mathlib.Core.Path.{_≡_};
 ghost use mathlib.Core.Bool.{true, false};
 ghost use mathlib.Core.List.{[]};
@@ -14,19 +16,21 @@ ghost use Rattle.rules.specs.declared.Verdict.the-variants.{Equal};
 ghost use Rattle.rules.specs.declared.Compared.the-variants.{Is};
 ghost use Rattle.stamps.specs.Lent.{name, stamp, Named};
 ghost use Rattle.walks.specs.Walks.{isLong};
-ghost use Rattle.packed.specs.Fits.{writtenNames};
+ghost use Rattle.writing.specs.Fits.{writtenNames};
 ghost use Rattle.calls.specs.Joins.{wroteJoin};
 ghost use Rattle.calls.specs.Keep.{keptIs};
+ghost use Rattle.rules.specs.Room.{roomNumber};
+use lengths::longest;
 use names::STRINGS;
-use packed::read_in;
-use packed::write_both;
-use packed::write_from;
+use reading::read_in;
 use rules::Answer;
 use rules::Compared;
 use rules::Refusal;
 use rules::Verdict;
 use rules::Written;
 use walks::is_long;
+use writing::write_both;
+use writing::write_from;
 
 // A buffer has room for the strings of two names.
 const ROOM: usize = 32;
@@ -128,6 +132,22 @@ pub fn keep<'a>(first: &'a [u8], second: &'a [u8]) -> &'a [u8]
         Verdict::Newer => first,
         Verdict::Conflict => &first[0..0],
     }
+}
+
+// How much of the limits the stamp takes up: 100 times the number of its id strings, and the digits of the longest; 0 where it is refused.
+pub fn room(stamp: &[u8]) -> u64
+    ensures { λ r. ⌜ r ≡ roomNumber narrow (now (stamp .entry)) ⌝ }
+{
+    let mut u = [0; 16];
+    let mut i = [0; 16];
+    let c = read_in(stamp, &mut u, &mut i);
+    let a = c.answer;
+    let Answer::Done = a else {
+        return 0;
+    };
+    let strings = c.id;
+    let digits = longest(&i[..strings]);
+    strings as u64 * 100 + digits
 }
 
 // The id of n words with 0 appended to each string, and with 1: in a word the length grows by one, and the digit comes behind the others.

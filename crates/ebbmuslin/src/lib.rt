@@ -2,6 +2,7 @@
 ghost use mathlib.Core.Path.{_≡_};
 ghost use Rattle.rules.specs.Limits.{narrow};
 ghost use Rattle.rules.specs.Packed.{packedUpdate, packedFork, packedJoin, packedCompare, writtenNumber, comparedNumber};
+ghost use Rattle.rules.specs.Room.{roomNumber};
 use answers::compared_code;
 use answers::written_code;
 
@@ -35,4 +36,12 @@ pub extern "C" fn ebbmuslin_compare(first: &[u8], second: &[u8]) -> u64
     ensures { λ r. ⌜ r ≡ comparedNumber (packedCompare narrow (now (first .entry)) (now (second .entry))) ⌝ }
 {
     compared_code(calls::compare(first, second))
+}
+
+// How much of the limits the stamp takes up: 100 times the number of its id strings, and the digits of the longest; 0 where it is refused.
+#[no_mangle]
+pub extern "C" fn ebbmuslin_room(stamp: &[u8]) -> u64
+    ensures { λ r. ⌜ r ≡ roomNumber narrow (now (stamp .entry)) ⌝ }
+{
+    calls::room(stamp)
 }

@@ -10,3 +10,4 @@ pub mod Good
 pub mod Keeps
 pub mod Right
 pub mod Every
+pub mod Calls

@@ -16,7 +16,7 @@ use Rattle.rules.specs.Strings.{Str}
 use Rattle.rules.specs.Names.{Name, any, covered, below, unions}
 use Rattle.rules.specs.Stamps.{Stamp, verdict, compare}
 use Rattle.rules.specs.Stored.{unlawful, absent}
-use Rattle.rules.specs.Refusals.{number, first, long, touches, overlap, unknownTo, unseen}
+use Rattle.rules.specs.Refusals.{first, long, touches, overlap, unknownTo, unseen}
 use Rattle.rules.specs.Values.{told}
 use Rattle.rules.specs.Tables.{Table, outside, at, stampAt, badSize, present, full, stepped, oneSlot, updateAt, forkAt, joinAt, compareAt, orNext, spareFrom, spareAt}
 use Rattle.rules.specs.Histories.{World, Events, eventsAt, within, eventVerdict, isObsolete, slotsFrom, isBehind, eventsOf}
@@ -78,10 +78,6 @@ any-in : (e : ℕ) (Y : Events) → any (eqb e) Y ≡ true → In e Y
 any-in e Y c = let x = any-some (eqb e) Y c in rw (eqb-true e (x .one) (x .passes)) (x .inside)
 
 -- ---- numbers that such a table gives
-
--- a refusal is told by its number
-usual-by : (r : Refusal) → (number r ≡ 8 → ⊥) × (number r ≡ 9 → ⊥) × (number r ≡ 12 → ⊥) → Usual r
-usual-by r p = (λ e. p .0 (ap number e), λ e. p .1 (ap number e), λ e. p .2 (ap number e))
 
 step-usual : (x : Answer) (a : ℕ) (old new : Table) → UsualAnswer x → UsualSlot (stepped x a old new .answer)
 step-usual Done a old new u = tt
@@ -245,7 +241,7 @@ module _ (L : Limits) (n : ℕ) (some : 1 ≤ n) (few : n ≤ records) (w : Worl
   -- ---- 8, 9 and 12 never occur
 
   no-slot : Usual NoSlot
-  no-slot = usual-by NoSlot (omega arith)
+  no-slot = omega arith
 
   one-slot-usual : (a : ℕ) (more : List (Bool × Refusal)) → (Here a → Usuals more) → Usuals (oneSlot L t a more)
   one-slot-usual a more f = never size-fits (gives no-slot λ p. never (fits a (is-not p)) (f (is-not p)))
@@ -260,7 +256,7 @@ module _ (L : Limits) (n : ℕ) (some : 1 ≤ n) (few : n ≤ records) (w : Worl
       step-usual (first (forkTests L t a)) _ t _
       (first-usual
       (one-slot-usual a ((full L t, Full) ∷ (long L (stampAt t a), Long) ∷ [])
-      (λ _. gives (usual-by Full (omega arith)) λ _. gives (usual-by Long (omega arith)) λ _. end)))
+      (λ _. gives (omega arith) λ _. gives (omega arith) λ _. end)))
 
   usual-join : (a b : ℕ) → UsualSlot (joinAt L t a b .answer)
   unfolding joinAt
@@ -268,11 +264,11 @@ module _ (L : Limits) (n : ℕ) (some : 1 ≤ n) (few : n ≤ records) (w : Worl
       step-usual (first (joinTests L t a b)) a t _
       (first-usual
       (never size-fits
-      (gives no-slot λ p. gives no-slot λ q. gives (usual-by OneSlot (omega arith)) λ e.
+      (gives no-slot λ p. gives no-slot λ q. gives (omega arith) λ e.
       let pa = is-not p in
       let pb = is-not q in
       never (fits a pa) (never (fits b pb)
-      (never (overlap-none a b pa pb (eqb-false a b e)) (never (unseen-none a b pa pb) (gives (usual-by Many (omega arith)) λ _. end)))))))
+      (never (overlap-none a b pa pb (eqb-false a b e)) (never (unseen-none a b pa pb) (gives (omega arith) λ _. end)))))))
 
   usual-compare : (a b : ℕ) → UsualCompared (compareAt L t a b)
   unfolding compareAt

@@ -70,7 +70,3 @@ pub count-below : (u i : Name) → rising u ≡ true → below u i ≡ true → 
 count-below u i h b =
     one-to-one (λ s t. prefix s t ≡ true) u i (rising-unshared u h)
     (λ s j. let c = covered-some s i (below-each u i b s j) in record { one = c .one; inside = c .inside; meets = c .passes })
-
--- a rising list whose strings all stand in another list is no longer
-pub count-within : (m : Name) (l : List Str) → rising m ≡ true → ((s : Str) → In s m → In s l) → length m ≤ length l
-count-within m l h f = count-below m l h (each-below m l (λ s i. in-covered s l (f s i)))

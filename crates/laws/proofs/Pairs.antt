@@ -23,15 +23,6 @@ firstTwins [] = none
 firstTwins (s ∷ []) = none
 firstTwins (s ∷ t ∷ n) = cond (siblings s t) (some (dropLast s)) (firstTwins (t ∷ n))
 
--- one neighbour more, as a loop wants it
-pub twins-now : {n m : Name} {s t : Str} → n ≡ s ∷ t ∷ m → siblings s t ≡ true → firstTwins n ≡ some (dropLast s)
-unfolding firstTwins
-twins-now e h = ap firstTwins e ∙ rw h
-
-pub twins-more : {n m : Name} {s t : Str} → n ≡ s ∷ t ∷ m → siblings s t ≡ false → firstTwins n ≡ firstTwins (t ∷ m)
-unfolding firstTwins
-twins-more e h = ap firstTwins e ∙ rw h
-
 pub twins-end : (n : Name) → length n ≤ 1 → firstTwins n ≡ none
 unfolding firstTwins
 twins-end [] h = refl

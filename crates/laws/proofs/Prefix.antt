@@ -72,9 +72,6 @@ is-same {s} p = subst (λ (x : Str). same s x ≡ true) p (same-refl s)
 pub not-same : {s t : Str} → same s t ≡ false → s ≡ t → ⊥
 not-same e p = clash (is-same p) e
 
-pub apart-same : {s t : Str} → (s ≡ t → ⊥) → same s t ≡ false
-apart-same {s} {t} h = not-true (λ e. h (same-is s t e))
-
 -- ---- one digit more
 
 pub prefix-append : (s t : Str) → prefix s (s ++ t) ≡ true

@@ -176,7 +176,3 @@ sorted-rising (s ∷ l) a =
     by t i (inl p) q = inl (a s t (inl refl) (inr i) p)
     by t i (inr p) (inl q) = inl (sym (a t s (inr i) (inl refl) q))
     by t i (inr p) (inr q) = inr (p, q)
-
--- a rising list is its own sorting
-pub sorted-self : (n : Name) → rising n ≡ true → sorted n ≡ n
-sorted-self n h = rising-unique (sorted n) n (sorted-rising n (rising-antichain n h)) h (λ s i. sorted-in n s i) (λ s i. in-sorted n s i)

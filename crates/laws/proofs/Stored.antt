@@ -72,13 +72,6 @@ module _ (L : Limits) (room : L .digits ≤ 58) where
   strs-of-words n h =
       ap (map strOf) (take-at (map wordOf n) (replicate (L .strings - length n) 0) (length n) (length-map n wordOf)) ∙ strs-words (L .digits) room n h
 
-  pub is-stored-name : (n : Name) → isName L n ≡ true → isStoredName L (wordsOf L n) ≡ true
-  unfolding isStoredName
-  is-stored-name n h =
-      let e = strs-of-words n (name-parts L n h .short) in
-      and-both (subst (λ (m : Name). isName L m ≡ true) (sym e) h)
-      (subst (λ (m : Name). sameWords (wordsOf L n) (wordsOf L m) ≡ true) (sym e) (words-refl (wordsOf L n)))
-
   -- a stamp's record tells the stamp
   pub held-stored : (x : Stamp) → lawful L x ≡ true → held (stored L x) ≡ x
   unfolding held stored

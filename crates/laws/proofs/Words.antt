@@ -208,13 +208,6 @@ pub less-words : (a b : ℕ) → a < 2 ^ 64 → b < 2 ^ 64 → prefix (strOf a) 
 unfolding strOf
 less-words a b ha hb p q = less-take (a % 64) (b % 64) (field 64 a) (field 64 b) p q ∙ less-field 64 a b ha hb
 
--- no digit differs where one is a prefix of the other
-pub prefix-not-less : (s t : Str) → prefix s t ≡ true → less s t ≡ false
-prefix-not-less s t p = not-true (λ h. clash p (less-apart s t h .0))
-
-pub extends-not-less : (s t : Str) → prefix t s ≡ true → less s t ≡ false
-extends-not-less s t p = not-true (λ h. clash p (less-apart s t h .1))
-
 -- ---- a word and its string
 
 pub str-length : (w : ℕ) → length (strOf w) ≡ w % 64
@@ -268,9 +261,6 @@ str-word s h =
     ∙ ap₂ (λ (n w : ℕ). field n (w / 2 ^ (64 - n))) (word-length s h) (word-value s)
     ∙ ap (field (length s)) (high (value s) (64 - length s) (omega (arith, room (length s) h)))
     ∙ field-value s
-
-pub word-injective : (s t : Str) → length s ≤ 58 → length t ≤ 58 → wordOf s ≡ wordOf t → s ≡ t
-word-injective s t hs ht e = sym (str-word s hs) ∙ ap strOf e ∙ str-word t ht
 
 -- the word of a word's string: what stands above the rest, and the length
 word-str : (w : ℕ) → w < 2 ^ 64 → w % 64 ≤ 58 → wordOf (strOf w) ≡ w / 2 ^ (64 - w % 64) * 2 ^ (64 - w % 64) + w % 64

@@ -3,4 +3,5 @@ pub mod Bytes
 pub mod Fields
 pub mod Names
 pub mod Sizes
+pub mod Values
 pub mod RoundTrip

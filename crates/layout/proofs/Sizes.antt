@@ -17,7 +17,7 @@ use Rattle.layout.proofs.Bytes.{areBytes, pack-length, bytes-are-bytes}
 use Rattle.layout.proofs.Names.{allShort, named, lawful-names, short-head, short-tail}
 
 module _ (L : Limits) where
-  pub packed-length : (s : Stamp) → length (packed L s) ≡ bytesFor (length (stampBits L s))
+  packed-length : (s : Stamp) → length (packed L s) ≡ bytesFor (length (stampBits L s))
   unfolding packed
   packed-length s = pack-length (stampBits L s)
 
@@ -25,15 +25,15 @@ module _ (L : Limits) where
   unfolding packed packBits
   packed-are-bytes s = bytes-are-bytes (bytesFor (length (stampBits L s))) _
 
-  string-length : (s : Str) → length (stringBits L s) ≡ L .lengthBits + length s
+  pub string-length : (s : Str) → length (stringBits L s) ≡ L .lengthBits + length s
   unfolding stringBits
   string-length s = length-append (field (L .lengthBits) (length s)) s ∙ ap (λ (n : ℕ). n + length s) (field-length (L .lengthBits) (length s))
 
-  strings-length : (s : Str) (n : Name) → length (stringsBits L (s ∷ n)) ≡ L .lengthBits + length s + length (stringsBits L n)
+  pub strings-length : (s : Str) (n : Name) → length (stringsBits L (s ∷ n)) ≡ L .lengthBits + length s + length (stringsBits L n)
   unfolding stringsBits
   strings-length s n = length-append (stringBits L s) (stringsBits L n) ∙ ap (λ (k : ℕ). k + length (stringsBits L n)) (string-length s)
 
-  name-length : (n : Name) → length (nameBits L n) ≡ L .countBits + length (stringsBits L n)
+  pub name-length : (n : Name) → length (nameBits L n) ≡ L .countBits + length (stringsBits L n)
   unfolding nameBits
   name-length n =
       length-append (field (L .countBits) (length n - 1)) (stringsBits L n)
@@ -43,9 +43,13 @@ module _ (L : Limits) where
   unfolding stampBits
   stamp-length s = length-append (nameBits L (s .update)) (nameBits L (s .id))
 
+  -- in bytes
+  pub names-length : (s : Stamp) → length (packed L s) ≡ bytesFor (length (nameBits L (s .update)) + length (nameBits L (s .id)))
+  names-length s = packed-length s ∙ ap bytesFor (stamp-length s)
+
   -- ---- between the shortest and the longest
 
-  strings-most : (n : Name) → allShort L n ≡ true → length (stringsBits L n) ≤ length n * (L .lengthBits + L .digits)
+  pub strings-most : (n : Name) → allShort L n ≡ true → length (stringsBits L n) ≤ length n * (L .lengthBits + L .digits)
   unfolding stringsBits
   strings-most [] h = omega arith
   strings-most (s ∷ n) h = omega (arith, strings-length s n, short-head L s n h, strings-most n (short-tail L s n h))
@@ -54,7 +58,7 @@ module _ (L : Limits) where
   name-least [] h = absurd (omega (arith, named L [] h .nonempty))
   name-least (s ∷ n) h = omega (arith, name-length (s ∷ n), strings-length s n)
 
-  name-most : (n : Name) → isName L n ≡ true → length (nameBits L n) ≤ L .countBits + L .strings * (L .lengthBits + L .digits)
+  pub name-most : (n : Name) → isName L n ≡ true → length (nameBits L n) ≤ L .countBits + L .strings * (L .lengthBits + L .digits)
   name-most n h =
       let i = named L n h in
       omega (arith, name-length n, strings-most n (i .short), mul-le-mul-right (L .lengthBits + L .digits) (i .few))
@@ -62,12 +66,12 @@ module _ (L : Limits) where
   pub packed-least : (s : Stamp) → lawful L s ≡ true → shortest L ≤ length (packed L s)
   packed-least s h =
       let n = lawful-names L s h in
-      omega (arith, packed-length s, stamp-length s, name-least (s .update) (n .0), name-least (s .id) (n .1))
+      omega (arith, names-length s, name-least (s .update) (n .0), name-least (s .id) (n .1))
 
   pub packed-most : (s : Stamp) → lawful L s ≡ true → length (packed L s) ≤ longest L
   packed-most s h =
       let n = lawful-names L s h in
-      omega (arith, packed-length s, stamp-length s, name-most (s .update) (n .0), name-most (s .id) (n .1))
+      omega (arith, names-length s, name-most (s .update) (n .0), name-most (s .id) (n .1))
 
   -- ---- a digit more
 

@@ -1,4 +1,5 @@
 -- What the proofs share.
 pub mod Laws
 pub mod Shape
+pub mod Grown
 pub mod Unique

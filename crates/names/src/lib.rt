@@ -8,7 +8,9 @@ ghost use Rattle.rules.specs.Limits.{narrow};
 ghost use Rattle.rules.specs.Strings.{less, strOf, isWord};
 ghost use Rattle.rules.specs.Names.{all, rising};
 ghost use Rattle.rules.specs.Stored.{strsIn, isStoredName};
+ghost use Rattle.names.specs.Lent.{countedIs, grownIn};
 use rules::Words;
+use std::num::wrapping_add_u64;
 use strings::is_word;
 use strings::last;
 
@@ -39,6 +41,19 @@ pub fn is_name_in(words: &[u64], count: usize) -> bool
         return is_zero_from(words, count);
     }
     false
+}
+
+// Whether the words from index c on are 0: no bit is set in any of them.
+pub fn is_zero_from(w: &[u64], c: usize) -> bool
+    ensures { λ r. ⌜ r ≡ all (eqb 0) (drop c (now (w .entry))) ⌝ }
+{
+    let mut bits = 0;
+    let mut i = c;
+    while i < w.len() {
+        bits |= w[i];
+        i += 1;
+    }
+    bits == 0
 }
 
 // Whether each of the first c words is that of a string, and each string comes before the next.
@@ -73,15 +88,28 @@ fn ends_before(a: u64, b: u64) -> bool
     last(a) < b
 }
 
-// Whether the words from index c on are 0: no bit is set in any of them.
-fn is_zero_from(w: &[u64], c: usize) -> bool
-    ensures { λ r. ⌜ r ≡ all (eqb 0) (drop c (now (w .entry))) ⌝ }
+// The words that are counted, in their place: all where there are no more.
+pub fn counted(w: &[u64], c: usize) -> &[u64]
+    ensures { λ r. ⌜ countedIs c (w .entry) r ⌝ }
 {
-    let mut bits = 0;
-    let mut i = c;
-    while i < w.len() {
-        bits |= w[i];
-        i += 1;
+    if w.len() < c {
+        return w;
     }
-    bits == 0
+    &w[..c]
+}
+
+// The words of an id with 0 appended to each string, and with 1, over the front of zero and of one: no more of them than a name has.
+pub fn grow(id: &[u64], zero: &mut [u64; STRINGS], one: &mut [u64; STRINGS])
+    ensures { λ _. ⌜ (now (zero .exit) ≡ grownIn 0 (take (narrow .strings) (now (id .entry))) (now (zero .entry)))
+        × (now (one .exit) ≡ grownIn 1 (take (narrow .strings) (now (id .entry))) (now (one .entry))) ⌝ }
+{
+    let front = counted(id, STRINGS);
+    let mut k = 0;
+    while k < front.len() {
+        let s = front[k];
+        let t = wrapping_add_u64(s, 1);
+        zero[k] = t;
+        one[k] = wrapping_add_u64(t, 1 << (63 - s % 64));
+        k += 1;
+    }
 }

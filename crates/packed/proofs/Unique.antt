@@ -3,33 +3,10 @@ use mathlib.Core.Path.{refl}
 use Rattle.rules.specs.Contracts.{OneAnswer}
 use Rattle.laws.proofs.Contracts.{agree, both-say}
 use Rattle.packed.proofs.read
-use Rattle.packed.proofs.read_in
 use Rattle.packed.proofs.write
-use Rattle.packed.proofs.size
-use Rattle.packed.proofs.write_from
-use Rattle.packed.proofs.write_both
-use Rattle.packed.proofs.size_of
 
 pub read-one-answer : OneAnswer read.ended (λ M 𝓤. read.clauses 𝓤) (λ M 𝓤. read.spec 𝓤)
 read-one-answer M 𝓤 H A mem run = (refl, λ κs a g h r s v w. both-say 𝓤 (λ e f. (agree e f, refl)))
 
-pub read-in-one-answer : OneAnswer read_in.ended (λ M 𝓤. read_in.clauses 𝓤) (λ M 𝓤. read_in.spec 𝓤)
-read-in-one-answer M 𝓤 H A mem run =
-    (refl, λ κs a g h r s v w. both-say 𝓤 (λ e f. (agree (e .0) (f .0), λ i. (tt, (agree (e .1) (f .1) i, (agree (e .2) (f .2) i, tt))))))
-
 pub write-one-answer : OneAnswer write.ended (λ M 𝓤. write.clauses 𝓤) (λ M 𝓤. write.spec 𝓤)
 write-one-answer M 𝓤 H A mem run = (refl, λ κs a g h r s v w. both-say 𝓤 (λ e f. (agree (e .0) (f .0), λ i. (tt, (agree (e .1) (f .1) i, tt)))))
-
-pub size-one-answer : OneAnswer size.ended (λ M 𝓤. size.clauses 𝓤) (λ M 𝓤. size.spec 𝓤)
-size-one-answer M 𝓤 H A mem run = (refl, λ κs a g h r s v w. both-say 𝓤 (λ e f. (agree e f, refl)))
-
-pub write-from-one-answer : OneAnswer write_from.ended (λ M 𝓤. write_from.clauses 𝓤) (λ M 𝓤. write_from.spec 𝓤)
-write-from-one-answer M 𝓤 H A mem run =
-    (refl, λ κs a g h r s v w. both-say 𝓤 (λ e f. (agree (e .0) (f .0), λ i. (tt, (tt, (agree (e .1) (f .1) i, tt))))))
-
-pub size-of-one-answer : OneAnswer size_of.ended (λ M 𝓤. size_of.clauses 𝓤) (λ M 𝓤. size_of.spec 𝓤)
-size-of-one-answer M 𝓤 H A mem run = (refl, λ κs a g h r s v w. both-say 𝓤 (λ e f. (agree e f, refl)))
-
-pub write-both-one-answer : OneAnswer write_both.ended (λ M 𝓤. write_both.clauses 𝓤) (λ M 𝓤. write_both.spec 𝓤)
-write-both-one-answer M 𝓤 H A mem run =
-    (refl, λ κs a g h r s v w. both-say 𝓤 (λ e f. (agree (e .0) (f .0), λ i. (tt, (tt, (tt, (agree (e .1) (f .1) i, (agree (e .2) (f .2) i, tt))))))))

@@ -67,6 +67,23 @@ begin L n = record { table = freshTable L n; events = replicate n []; next = 0 }
 unfoldable pub history : Limits → ℕ → List Call → World
 history L n cs = afterAll L (begin L n) cs
 
+-- ---- the records that calls leave, with no events beside them
+
+-- by the call's own definition alone
+unfoldable pub callTable : Limits → Table → Call → Table
+callTable L t (update a) = updateAt L t a .table
+callTable L t (fork a) = forkAt L t a .table
+callTable L t (join a b) = joinAt L t a b .table
+callTable L t (compare a b) = t
+
+unfoldable pub callsTable : Limits → Table → List Call → Table
+callsTable L t [] = t
+callsTable L t (c ∷ cs) = callsTable L (callTable L t c) cs
+
+-- these records beside a history's events
+abbrev pub beside : Table → World → World
+beside t w = record { table = t; events = w .events; next = w .next }
+
 -- ---- how event sets stand by inclusion
 
 unfoldable pub within : Events → Events → Bool

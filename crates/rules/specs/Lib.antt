@@ -7,6 +7,7 @@ pub mod Stored
 pub mod Refusals
 pub mod Values
 pub mod Packed
+pub mod Room
 pub mod Bundles
 pub mod Tables
 pub mod Histories

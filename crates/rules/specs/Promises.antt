@@ -1,6 +1,6 @@
 -- What is promised of the definitions, as propositions: a definition claims nothing, and docs/CONTRACTS.md says which are proved.
 use mathlib.Core.Path.{_≡_}
-use mathlib.Core.Bool.{true, cond}
+use mathlib.Core.Bool.{true, false, cond}
 use mathlib.Core.List.{List, map}
 use Prim.Native.Nat.{ℕ, _≤_}
 use lib.Dec.{ltb}
@@ -10,12 +10,12 @@ use Rattle.rules.specs.Strings.{Str, prefix, whole}
 use Rattle.rules.specs.Names.{all, member, below, unions}
 use Rattle.rules.specs.Stamps.{Stamp, lawful}
 use Rattle.rules.specs.Stored.{held, isStored}
+use Rattle.rules.specs.Refusals.{number}
 use Rattle.rules.specs.Values.{given}
 use Rattle.rules.specs.Packed.{packed, readStamp}
-use Rattle.rules.specs.Tables.{Table, at, stampAt, present, compareAt, spareAt, updateAt, forkAt, joinAt}
-use Rattle.rules.specs.Histories.{Call, World, eventsAt, eventsOf, within, eventVerdict, isBehind, sumTable, history}
+use Rattle.rules.specs.Tables.{Table, at, stampAt, badSize, present, makeFresh, updateAt, forkAt, joinAt, compareAt, spareAt}
+use Rattle.rules.specs.Histories.{Call, World, eventsAt, eventsOf, within, eventVerdict, isBehind, sumTable, history, callsTable, beside}
 use Rattle.rules.specs.declared.Refusal.{Refusal}
-use Rattle.rules.specs.declared.Refusal.the-variants.{Overlap, Unseen, Unfit}
 use Rattle.rules.specs.declared.Answer.the-variants.{Done}
 use Rattle.rules.specs.declared.Compared.{Compared}
 use Rattle.rules.specs.declared.Compared.the-variants.{Is, Refused as NotCompared}
@@ -38,7 +38,7 @@ ReadWrite L = (b : List ℕ) → all (λ x. ltb x 256) b ≡ true → readStamp 
 
 -- this refusal has none of the numbers that such a table never gives
 abbrev pub Usual : Refusal → Type 0
-Usual r = (r ≡ Overlap → ⊥) × (r ≡ Unseen → ⊥) × (r ≡ Unfit → ⊥)
+Usual r = (number r ≡ 8 → ⊥) × (number r ≡ 9 → ⊥) × (number r ≡ 12 → ⊥)
 
 abbrev pub UsualSlot : Slot → Type 0
 UsualSlot (At a) = Unit {0}
@@ -84,3 +84,12 @@ pub record Right (L : Limits) (w : World) : Type 0 where
 -- "On a table made fresh, after any sequence of update, fork, join and compare calls, accepted or refused"
 abbrev pub EveryHistory : Limits → Type 0
 EveryHistory L = (n : ℕ) (cs : List Call) → 1 ≤ n → n ≤ records → Right L (history L n cs)
+
+-- the records themselves: `makeFresh` of a run of 1 to 32 records answers slot 0, and from there calls leave the table of their history
+abbrev pub MadeByCalls : Limits → Type 0
+MadeByCalls L = (t : Table) → badSize t ≡ false
+    → (makeFresh L t .answer ≡ At 0) × ((cs : List Call) → callsTable L (makeFresh L t .table) cs ≡ history L (length t) cs .table)
+
+-- so demand 3 is true of the records that any such calls leave, whatever the run held before
+abbrev pub RightByCalls : Limits → Type 0
+RightByCalls L = (t : Table) (cs : List Call) → badSize t ≡ false → Right L (beside (callsTable L (makeFresh L t .table) cs) (history L (length t) cs))

@@ -2,12 +2,14 @@
 
 // A name as it is stored: how many strings, and each of them in a word; the words behind them are 0.
 // A word has a string's digits from the top down, and its length in the six low bits.
+#[repr(C)]
 pub struct Words {
     pub count: usize,
     pub words: [u64; 16],
 }
 
 // A copy record: a stamp's update name and id name. All zeros where there is no copy.
+#[repr(C)]
 pub struct Record {
     pub update: Words,
     pub id: Words,

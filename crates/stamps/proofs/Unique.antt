@@ -2,12 +2,16 @@
 use mathlib.Core.Path.{refl}
 use Rattle.rules.specs.Contracts.{OneAnswer}
 use Rattle.laws.proofs.Contracts.{agree, both-say}
+use Rattle.stamps.proofs.blank
 use Rattle.stamps.proofs.is_lawful
 use Rattle.stamps.proofs.is_lawful_in
 use Rattle.stamps.proofs.update
 use Rattle.stamps.proofs.fork
 use Rattle.stamps.proofs.meet
 use Rattle.stamps.proofs.compare
+
+pub blank-one-answer : OneAnswer blank.ended (λ M 𝓤. blank.clauses 𝓤) (λ M 𝓤. blank.spec 𝓤)
+blank-one-answer M 𝓤 H A mem run = (refl, λ κs a g h r s v w. both-say 𝓤 (λ e f. (agree e f, refl)))
 
 pub is-lawful-one-answer : OneAnswer is_lawful.ended (λ M 𝓤. is_lawful.clauses 𝓤) (λ M 𝓤. is_lawful.spec 𝓤)
 is-lawful-one-answer M 𝓤 H A mem run = (refl, λ κs a g h r s v w. both-say 𝓤 (λ e f. (agree e f, refl)))

@@ -26,6 +26,15 @@ use walks::has_twins;
 use walks::is_below;
 use walks::is_long;
 
+// All zeros: no copy.
+pub fn blank() -> Record
+    ensures { λ r. ⌜ r ≡ blank narrow ⌝ }
+{
+    let w = [0; 16];
+    let n = Words { count: 0, words: w };
+    Record { update: n, id: n }
+}
+
 // Whether the record is the stored shape of a lawful stamp.
 pub fn is_lawful(r: Record) -> bool
     ensures { λ b. ⌜ b ≡ isStored narrow r ⌝ }
@@ -59,7 +68,7 @@ pub fn update(r: Record) -> Given
             stamp: s,
         };
     }
-    let z = nothing();
+    let z = blank();
     Given {
         answer: Answer::Refused(Refusal::Unlawful),
         stamp: z,
@@ -222,19 +231,10 @@ fn grown(n: &[u64], c: usize, d: u64) -> Words
 fn no_fork(r: Refusal) -> Forked
     ensures { λ f. ⌜ (f .answer ≡ Refused r) × (f .zero ≡ blank narrow) × (f .one ≡ blank narrow) ⌝ }
 {
-    let z = nothing();
+    let z = blank();
     Forked {
         answer: Answer::Refused(r),
         zero: z,
         one: z,
     }
-}
-
-// All zeros: no copy.
-fn nothing() -> Record
-    ensures { λ r. ⌜ r ≡ blank narrow ⌝ }
-{
-    let w = [0; 16];
-    let n = Words { count: 0, words: w };
-    Record { update: n, id: n }
 }

@@ -2,4 +2,5 @@
 pub mod Ones
 pub mod Order
 pub mod Ends
+pub mod Fronts
 pub mod Unique

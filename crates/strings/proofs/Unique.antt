@@ -3,8 +3,7 @@ use mathlib.Core.Path.{refl}
 use Rattle.rules.specs.Contracts.{OneAnswer}
 use Rattle.laws.proofs.Contracts.{agree, both-say}
 use Rattle.strings.proofs.shared
-use Rattle.strings.proofs.is_prefix
-use Rattle.strings.proofs.comes_before
+use Rattle.strings.proofs.begins
 use Rattle.strings.proofs.are_siblings
 use Rattle.strings.proofs.is_word
 use Rattle.strings.proofs.last
@@ -12,11 +11,8 @@ use Rattle.strings.proofs.last
 pub shared-one-answer : OneAnswer shared.ended (λ M 𝓤. shared.clauses 𝓤) (λ M 𝓤. shared.spec 𝓤)
 shared-one-answer M 𝓤 H A mem run = (refl, λ κs a g h r s v w. both-say 𝓤 (λ e f. (agree e f, refl)))
 
-pub is-prefix-one-answer : OneAnswer is_prefix.ended (λ M 𝓤. is_prefix.clauses 𝓤) (λ M 𝓤. is_prefix.spec 𝓤)
-is-prefix-one-answer M 𝓤 H A mem run = (refl, λ κs a g h r s v w. both-say 𝓤 (λ e f. (agree e f, refl)))
-
-pub comes-before-one-answer : OneAnswer comes_before.ended (λ M 𝓤. comes_before.clauses 𝓤) (λ M 𝓤. comes_before.spec 𝓤)
-comes-before-one-answer M 𝓤 H A mem run = (refl, λ κs a g h r s v w. both-say 𝓤 (λ e f. (agree e f, refl)))
+pub begins-one-answer : OneAnswer begins.ended (λ M 𝓤. begins.clauses 𝓤) (λ M 𝓤. begins.spec 𝓤)
+begins-one-answer M 𝓤 H A mem run = (refl, λ κs a g h r s v w. both-say 𝓤 (λ e f. (agree e f, refl)))
 
 pub are-siblings-one-answer : OneAnswer are_siblings.ended (λ M 𝓤. are_siblings.clauses 𝓤) (λ M 𝓤. are_siblings.spec 𝓤)
 are-siblings-one-answer M 𝓤 H A mem run = (refl, λ κs a g h r s v w. both-say 𝓤 (λ e f. (agree e f, refl)))

@@ -1,8 +1,8 @@
 // Strings, each in a word: its digits from the top down, its length in the six low bits.
 ghost use mathlib.Core.Path.{_≡_};
 ghost use Rattle.rules.specs.Limits.{narrow};
-ghost use Rattle.rules.specs.Strings.{common, field, prefix, less, siblings, strOf, isWord};
-ghost use Rattle.strings.specs.Words.{lastOf};
+ghost use Rattle.rules.specs.Strings.{common, field, siblings, strOf, isWord};
+ghost use Rattle.strings.specs.Words.{begins, lastOf};
 
 // A string has at most so many digits.
 pub const DIGITS: u64 = 24;
@@ -14,29 +14,12 @@ pub fn shared(a: u64, b: u64) -> u32
     u64::leading_zeros(a ^ b)
 }
 
-// Whether the string of a is a prefix of that of b, itself included.
-pub fn is_prefix(a: u64, b: u64) -> bool
-    ensures { λ r. ⌜ r ≡ prefix (strOf a) (strOf b) ⌝ }
+// Whether t begins with the digits of s: where the words stand in order, s at or before t, its string is then a prefix of that of t.
+pub fn begins(s: u64, t: u64) -> bool
+    ensures { λ r. ⌜ r ≡ begins s t ⌝ }
 {
-    let m = (a % 64) as u32;
-    let n = (b % 64) as u32;
-    if m <= n {
-        return m <= shared(a, b);
-    }
-    false
-}
-
-// Whether the string of a has a 0 where that of b has a 1, at the first digit that differs.
-pub fn comes_before(a: u64, b: u64) -> bool
-    ensures { λ r. ⌜ r ≡ less (strOf a) (strOf b) ⌝ }
-{
-    if is_prefix(a, b) {
-        return false;
-    }
-    if is_prefix(b, a) {
-        return false;
-    }
-    a < b
+    let digits = (s % 64) as u32;
+    digits <= shared(s, t)
 }
 
 // Whether the two strings differ in the last digit only.

@@ -4,8 +4,8 @@ use mathlib.Core.Bool.{Bool, true, false, cond}
 use Prim.Native.Nat.{ℕ, zero, suc, _+_, _≤_, _<_}
 use native.Mathlib.Numerals.{add-one}
 use native.Mathlib.Omega.{arith}
-use borrow.Author.Tests.{eqb-true, eqb-false}
-use lib.Dec.{eqb, ltb}
+use borrow.Author.Tests.{eqb-true, eqb-false, lt-leb}
+use lib.Dec.{eqb, leb, ltb}
 use lib.ListN.{length, getD, set, replicate, length-set, length-replicate, getD-replicate}
 use lib.Seq.{ext-getD, getD-set-same, getD-set-other}
 use Rattle.rules.specs.Limits.{narrow, records}
@@ -13,7 +13,7 @@ use Rattle.rules.specs.Refusals.{first}
 use Rattle.rules.specs.Stamps.{start}
 use Rattle.rules.specs.Stored.{stored, blank}
 use Rattle.rules.specs.Tables.{Table, outside, badSize, freshTable, makeFresh, slotNumber}
-use Rattle.tables.specs.Gates.{roomOf, roomCode, freshSlot}
+use Rattle.slots.specs.Gates.{gateCode, roomOf, freshSlot}
 
 -- the first i slots filled
 unfoldable pub filledTo : ℕ → Table → Table
@@ -63,15 +63,17 @@ filled-all t =
     filled-at (length t) t j l (omega arith) ∙ sym (fresh-at (length t) j l))
 
 pub fresh-is : (t : Table)
-    → (roomCode (roomOf (length t)) ≡ slotNumber (makeFresh narrow t .answer)) × (filledTo (roomOf (length t)) t ≡ makeFresh narrow t .table)
-unfolding roomCode roomOf makeFresh badSize first filledTo
+    → (gateCode (length t) 0 0 ≡ slotNumber (makeFresh narrow t .answer)) × (filledTo (roomOf (length t)) t ≡ makeFresh narrow t .table)
+unfolding gateCode roomOf makeFresh badSize first filledTo
 fresh-is t = by (eqb (length t) 0) (ltb records (length t)) refl refl
   where
     by : (p q : Bool) → eqb (length t) 0 ≡ p → ltb records (length t) ≡ q
-        → (roomCode (roomOf (length t)) ≡ slotNumber (makeFresh narrow t .answer)) × (filledTo (roomOf (length t)) t ≡ makeFresh narrow t .table)
+        → (gateCode (length t) 0 0 ≡ slotNumber (makeFresh narrow t .answer)) × (filledTo (roomOf (length t)) t ≡ makeFresh narrow t .table)
     by true q hp hq = let z : length t ≡ 0 = eqb-true (length t) 0 hp in (simp z, simp z)
     by false true hp hq = (simp (hp, hq), simp (hp, hq))
-    by false false hp hq = (simp (hp, hq), simp (hp, hq) (filled-all t))
+    by false false hp hq =
+        let some : leb (length t) 0 ≡ false = lt-leb (length t) 0 (omega (arith, eqb-false (length t) 0 hp)) in
+        (simp (hp, hq, some), simp (hp, hq) (filled-all t))
 
 pub room-le : (n : ℕ) → roomOf n ≤ n
 unfolding roomOf

@@ -6,7 +6,7 @@ use Prim.Native.Nat.{ℕ, zero, suc, _+_, _≤_, _<_}
 use native.Mathlib.Numerals.{add-one}
 use native.Mathlib.Omega.{arith}
 use borrow.Author.Tests.{lt-ltb, le-ltb, ltb-true, ltb-false, eqb-true, eqb-false, eq-eqb, ne-eqb}
-use lib.Dec.{eqb, ltb, lit≤}
+use lib.Dec.{eqb, ltb}
 use lib.ListN.{length, getD, drop, drop-of-length-le}
 use lib.Seq.{drop-cons}
 use Rattle.laws.proofs.Tests.{clash}
@@ -19,19 +19,16 @@ use Rattle.rules.specs.Values.{told, compared}
 use Rattle.rules.specs.declared.Record.{Record}
 use Rattle.rules.specs.declared.Answer.{Answer}
 use Rattle.rules.specs.declared.Answer.the-variants.{Done, Refused}
-use Rattle.rules.specs.declared.Compared.{Compared}
-use Rattle.rules.specs.declared.Compared.the-variants.{Is, Refused as NotCompared}
-use Rattle.rules.specs.declared.Refusal.{Refusal}
-use Rattle.rules.specs.declared.Refusal.the-variants.{Malformed, Unlawful, NoSlot, OneSlot, Full, Long, Many, Overlap, Unseen, Short, Unread, Unfit, Ended}
+use Rattle.rules.specs.declared.Refusal.the-variants.{Overlap, Unseen, Unfit}
 use Rattle.rules.specs.declared.Spared.{Spared}
 use Rattle.rules.specs.declared.Verdict.{Verdict}
 use Rattle.rules.specs.declared.Verdict.the-variants.{Equal, Obsolete, Newer, Conflict}
 use Rattle.walks.specs.Walks.{front, compareWalk}
 use Rattle.walks.proofs.Meets.{compare-walk}
-use Rattle.tables.specs.declared.Scan.{Scan}
-use Rattle.tables.specs.Gates.{roomOf}
-use Rattle.tables.specs.Rules.{codeOf, answerCode, slotTests}
-use Rattle.tables.specs.Scans.{found, foundOr, onwardTo, passOf, within, scanOf, seekOf, weighed, weighOf, obsoleteNumber, spareCode, meetCode}
+use Rattle.slots.specs.declared.Scan.{Scan}
+use Rattle.slots.specs.Gates.{codeOf, roomOf}
+use Rattle.slots.specs.Scans.{found, foundOr, onwardTo, absentOrNext, weighed, weighOf, obsoleteNumber, spareCode, meetCode}
+use Rattle.tables.specs.Passes.{passOf, within, scanOf}
 
 -- ---- any pass
 
@@ -157,45 +154,45 @@ sought-miss r t k e = rw (full-miss r t e, low-miss r t e) (by (full narrow t))
     by true = omega arith
     by false = omega arith
 
-pub seek-goes : Goes seekOf
-unfolding seekOf
-seek-goes k r h = simp (lt-ltb k records h) (by (absent narrow r))
+pub absent-goes : Goes absentOrNext
+unfolding absentOrNext
+absent-goes k r h = simp (lt-ltb k records h) (by (absent narrow r))
   where
     by : (b : Bool) → cond b (found + k) (k + 1) < found → cond b (found + k) (k + 1) ≡ k + 1
     by true l = absurd (omega arith)
     by false l = refl
 
-seek-hit : (k : ℕ) (r : Record) → absent narrow r ≡ true → k < 32 → seekOf k r ≡ found + k
-unfolding seekOf
-seek-hit k r e h = simp (e, lt-ltb k records h)
+absent-hit : (k : ℕ) (r : Record) → absent narrow r ≡ true → k < 32 → absentOrNext k r ≡ found + k
+unfolding absentOrNext
+absent-hit k r e h = simp (e, lt-ltb k records h)
 
-seek-miss : (k : ℕ) (r : Record) → absent narrow r ≡ false → k < 32 → seekOf k r ≡ k + 1
-unfolding seekOf
-seek-miss k r e h = simp (e, lt-ltb k records h)
+absent-miss : (k : ℕ) (r : Record) → absent narrow r ≡ false → k < 32 → absentOrNext k r ≡ k + 1
+unfolding absentOrNext
+absent-miss k r e h = simp (e, lt-ltb k records h)
 
 -- from slot k on: it ends behind the last slot, or has found the lowest
 abbrev soughtFrom : ℕ → Table → ℕ
 soughtFrom k t = cond (full narrow t) (k + length t) (found + (k + lowest narrow t))
 
-sought : (k : ℕ) (t : Table) → k + length t ≤ 32 → passOf seekOf k t ≡ soughtFrom k t
+sought : (k : ℕ) (t : Table) → k + length t ≤ 32 → passOf absentOrNext k t ≡ soughtFrom k t
 unfolding passOf full lowest
 sought k [] h = let e : k ≡ k + 0 = omega arith in e
-sought k (r ∷ t) h = pass-more seekOf k r t (omega arith) ∙ by (absent narrow r) refl (sought (k + 1) t (omega arith))
+sought k (r ∷ t) h = pass-more absentOrNext k r t (omega arith) ∙ by (absent narrow r) refl (sought (k + 1) t (omega arith))
   where
-    by : (b : Bool) → absent narrow r ≡ b → passOf seekOf (k + 1) t ≡ soughtFrom (k + 1) t → passOf seekOf (seekOf k r) t ≡ soughtFrom k (r ∷ t)
+    by : (b : Bool) → absent narrow r ≡ b → passOf absentOrNext (k + 1) t ≡ soughtFrom (k + 1) t → passOf absentOrNext (absentOrNext k r) t ≡ soughtFrom k (r ∷ t)
     by true e ih =
-        ap (λ (n : ℕ). passOf seekOf n t) (seek-hit k r e (omega arith))
-        ∙ pass-found seekOf (found + k) t (omega arith)
+        ap (λ (n : ℕ). passOf absentOrNext n t) (absent-hit k r e (omega arith))
+        ∙ pass-found absentOrNext (found + k) t (omega arith)
         ∙ sym (sought-hit r t k e)
     by false e ih =
-        ap (λ (n : ℕ). passOf seekOf n t) (seek-miss k r e (omega arith))
+        ap (λ (n : ℕ). passOf absentOrNext n t) (absent-miss k r e (omega arith))
         ∙ ih
         ∙ sym (sought-miss r t k e)
 
-pub sought-slot : (t : Table) (a : ℕ) → length t ≤ 32 → foundOr (scanOf seekOf 0 t) a ≡ cond (full narrow t) a (lowest narrow t)
+pub sought-slot : (t : Table) (a : ℕ) → length t ≤ 32 → foundOr (scanOf absentOrNext 0 t) a ≡ cond (full narrow t) a (lowest narrow t)
 unfolding scanOf
 sought-slot t a h =
-    ap (λ (n : ℕ). foundOr n a) (ap (λ (u : Table). passOf seekOf 0 (drop 0 u)) (within-few t h) ∙ sought 0 t (omega arith)) ∙ by (full narrow t)
+    ap (λ (n : ℕ). foundOr n a) (ap (λ (u : Table). passOf absentOrNext 0 (drop 0 u)) (within-few t h) ∙ sought 0 t (omega arith)) ∙ by (full narrow t)
   where
     by : (b : Bool) → foundOr (cond b (0 + length t) (found + (0 + lowest narrow t))) a ≡ cond b a (lowest narrow t)
     by true = none-yet (0 + length t) a (omega arith)
@@ -268,49 +265,6 @@ meet-answer m r e = by (isStored narrow r) refl
         ap (λ (b : Bool). cond b (spareCode (compareWalk (front (m .update)) (front (m .id)) (front (r .update)) (front (r .id)))) (codeOf Unfit)) d
         ∙ meet-lawful m r e d
     by false d = simp d
-
--- the answer to a pair has few digits
-code-few : (r : Refusal) → codeOf r ≤ 2000
-code-few Malformed = lit≤ tt
-code-few Unlawful = lit≤ tt
-code-few NoSlot = lit≤ tt
-code-few OneSlot = lit≤ tt
-code-few Full = lit≤ tt
-code-few Long = lit≤ tt
-code-few Many = lit≤ tt
-code-few Overlap = lit≤ tt
-code-few Unseen = lit≤ tt
-code-few Short = lit≤ tt
-code-few Unread = lit≤ tt
-code-few Unfit = lit≤ tt
-code-few Ended = lit≤ tt
-
-spare-few : (c : Compared) → spareCode c ≤ 2000
-spare-few (Is Equal) = lit≤ tt
-spare-few (Is Obsolete) = lit≤ tt
-spare-few (Is Newer) = lit≤ tt
-spare-few (Is Conflict) = lit≤ tt
-spare-few (NotCompared r) = code-few r
-
-pub meet-few : (m r : Record) → meetCode m r ≤ 2000
-unfolding meetCode
-meet-few m r = by (isStored narrow r)
-  where
-    c : Compared
-    c = compareWalk (front (m .update)) (front (m .id)) (front (r .update)) (front (r .id))
-
-    by : (b : Bool) → cond b (spareCode c) (codeOf Unfit) ≤ 2000
-    by true = spare-few c
-    by false = lit≤ tt
-
-pub slot-few : (r : Record) → answerCode (first (slotTests r [])) 0 ≤ 2000
-unfolding first
-slot-few r = by (absent narrow r) (unlawful narrow r)
-  where
-    by : (x y : Bool) → answerCode (cond x (Refused NoSlot) (cond y (Refused Unfit) Done)) 0 ≤ 2000
-    by true y = lit≤ tt
-    by false true = lit≤ tt
-    by false false = lit≤ tt
 
 module _ (s : Scan) (lawful : isStored narrow (s .mine) ≡ true) where
   abbrev next : ℕ → Table → Spared

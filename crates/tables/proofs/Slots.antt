@@ -4,13 +4,13 @@ use mathlib.Core.List.{[], _∷_}
 use Prim.Native.Nat.{ℕ}
 use Rattle.rules.proofs.Record as T
 use Rattle.rules.proofs.Record.Laws as T′
-use Rattle.tables.specs.Gates.{gateCode}
-use Rattle.tables.proofs.One as O
-use Rattle.tables.proofs.One.Laws as O′
-use Rattle.tables.proofs.Two as D
-use Rattle.tables.proofs.Two.Laws as D′
-use Rattle.tables.proofs.Scan as S
-use Rattle.tables.proofs.Scan.Laws as S′
+use Rattle.slots.specs.Gates.{gateCode}
+use Rattle.slots.proofs.One as O
+use Rattle.slots.proofs.One.Laws as O′
+use Rattle.slots.proofs.Two as D
+use Rattle.slots.proofs.Two.Laws as D′
+use Rattle.slots.proofs.Scan as S
+use Rattle.slots.proofs.Scan.Laws as S′
 use Rattle.frames.proofs.Rows.{Plainly, number, struct, Ins}
 
 abbrev pub item : Plainly

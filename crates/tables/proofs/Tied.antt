@@ -4,7 +4,7 @@ use mathlib.Core.Bool.{Bool, true, false, cond, _||_}
 use mathlib.Core.List.{[], _∷_}
 use Prim.Native.Nat.{ℕ, _≤_, _<_}
 use native.Mathlib.Omega.{arith}
-use borrow.Author.Tests.{eq-eqb, eqb-true, eqb-false, leb-true, leb-false, ltb-false}
+use borrow.Author.Tests.{eq-eqb, eqb-true, eqb-false, leb-true, leb-false, ltb-false, not-false}
 use lib.Dec.{eqb, leb, ltb, lit≤}
 use lib.ListN.{length, set}
 use lib.Seq.{set-getD}
@@ -14,7 +14,7 @@ use Rattle.rules.specs.Limits.{narrow, records}
 use Rattle.rules.specs.Packed.{comparedNumber}
 use Rattle.rules.specs.Refusals.{first, long, many}
 use Rattle.rules.specs.Stamps.{Stamp, update, fork, join, compare}
-use Rattle.rules.specs.Stored.{stored, blank, absent, unlawful, held}
+use Rattle.rules.specs.Stored.{stored, blank, absent, isStored, unlawful, held}
 use Rattle.rules.specs.Tables.{Table, outside, at, badSize, noSlot, lowest, full, stepped, slotNumber, sparedNumber}
 use Rattle.rules.specs.Tables.{updateAt, forkAt, joinAt, compareAt, spareAt}
 use Rattle.rules.specs.declared.Record.{Record}
@@ -22,12 +22,12 @@ use Rattle.rules.specs.declared.Answer.{Answer}
 use Rattle.rules.specs.declared.Answer.the-variants.{Done, Refused}
 use Rattle.rules.specs.declared.Refusal.the-variants.{Long, Many}
 use Rattle.rules.specs.declared.Verdict.the-variants.{Equal}
-use Rattle.tables.specs.declared.Scan.{Scan}
-use Rattle.tables.specs.Gates.{gateCode}
-use Rattle.tables.specs.Rules.{answerCode, oneOf, twoOf, slotTests, pairTests, meetTests, updateRule, forkRule, joinRule, compareRule}
-use Rattle.tables.specs.Rules.{forkCode, forkList}
-use Rattle.tables.specs.Scans.{foundOr, onwardTo, scanOf, seekOf, weighOf, weighStart}
-use Rattle.tables.proofs.Forms.{lawful-then}
+use Rattle.slots.specs.declared.Scan.{Scan}
+use Rattle.slots.specs.Gates.{gateCode}
+use Rattle.slots.specs.Rules.{answerCode, oneOf, twoOf, slotTests, pairTests, meetTests, updateRule, forkRule, joinRule, compareRule}
+use Rattle.tables.specs.Forks.{forkCode, forkList}
+use Rattle.slots.specs.Scans.{foundOr, onwardTo, absentOrNext, weighOf, weighStart}
+use Rattle.tables.specs.Passes.{scanOf}
 use Rattle.tables.proofs.Passes.{sought-slot, lowest-le, lowest-absent, answered, weighed-all}
 
 -- ---- the gate
@@ -183,7 +183,7 @@ join-tied t a b = by (gates (length t) a b)
 
 -- the slot that a fork of slot a goes into: the lowest absent; a where none is
 abbrev pub forkSlot : Table → ℕ → ℕ
-forkSlot t a = foundOr (scanOf seekOf 0 t) a
+forkSlot t a = foundOr (scanOf absentOrNext 0 t) a
 
 abbrev Forks : Table → ℕ → ℕ → Type 0
 Forks t a b = (forkCode t a b ≡ slotNumber (forkAt narrow t a .answer)) × (forkList t a b ≡ forkAt narrow t a .table)
@@ -245,6 +245,10 @@ fork-tied t a = by (badCount (length t)) refl
     by false p = subst (λ (b : ℕ). Forks t a b) (sym (sought-slot t a (few (length t) p))) (which (full narrow t) refl)
 
 -- ---- spare
+
+lawful-then : (r : Record) → unlawful narrow r ≡ false → isStored narrow r ≡ true
+unfolding unlawful
+lawful-then r e = not-false (isStored narrow r) e
 
 -- what the search for slot a answers
 abbrev pub searched : Table → ℕ → ℕ

@@ -1,4 +1,3 @@
 -- What the functions below the public ones answer, in the shape of the code.
-pub mod Gates
-pub mod Rules
-pub mod Scans
+pub mod Passes
+pub mod Forks

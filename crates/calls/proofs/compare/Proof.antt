@@ -20,7 +20,7 @@ use Rattle.rules.specs.declared.Compared.{Compared}
 use Rattle.rules.specs.declared.Compared.the-variants.{Is, Refused as NotCompared}
 use Rattle.names.proofs.Shape.{stored-full}
 use Rattle.stamps.proofs.Laws.{stored-names}
-use Rattle.packed.proofs.Lent.{givenBy, read-is}
+use Rattle.reading.proofs.Lent.{givenBy, read-is}
 use Rattle.calls.proofs.Laws.{read-stored}
 use Rattle.calls.proofs.compare.Statement.{statement}
 use Rattle.calls.proofs.compare.Tie as tie

@@ -30,10 +30,10 @@ use Rattle.laws.proofs.Stored.{stored-not-unlawful}
 use Rattle.names.proofs.Shape.{stored-full}
 use Rattle.walks.specs.Walks.{isLong}
 use Rattle.walks.proofs.Tells as walks
-use Rattle.stamps.proofs.Laws.{stored-names, forked-is}
-use Rattle.packed.specs.Fits.{writtenBoth}
-use Rattle.packed.proofs.Lent.{givenBy, read-is}
-use Rattle.packed.proofs.Writing.{two, stored-inside, stored-fits}
+use Rattle.stamps.proofs.Laws.{stored-names, forked-is, lent-room}
+use Rattle.writing.specs.Fits.{writtenBoth}
+use Rattle.reading.proofs.Lent.{givenBy, read-is}
+use Rattle.writing.proofs.Writing.{two, stored-fits}
 use Rattle.calls.proofs.Laws.{read-stored, forked-stored}
 use Rattle.calls.proofs.fork.Statement.{statement}
 use Rattle.calls.proofs.fork.Tie as tie
@@ -123,10 +123,10 @@ module _ (c : tie.After-enum-told) where
   lawful = is-read (start read .args .stamp .now) (start read .args .zero .now) (start read .args .one .now) (got read) (is-got read) (c .enum-told .given .1)
 
   inside : got read .stamp .id .count ≤ length (got read .stamp .id .words)
-  inside = stored-inside (got read .stamp .id) (stored-names narrow (got read .stamp) lawful .1)
+  inside = lent-room (got read .stamp .id .count) (got read .stamp .id .words) (stored-names narrow (got read .stamp) lawful .1)
 
   inside-update : got read .stamp .update .count ≤ length (got read .stamp .update .words)
-  inside-update = stored-inside (got read .stamp .update) (stored-names narrow (got read .stamp) lawful .0)
+  inside-update = lent-room (got read .stamp .update .count) (got read .stamp .update .words) (stored-names narrow (got read .stamp) lawful .0)
 
 array-share-prefix-i : tie.Need-array-share-prefix-i
 array-share-prefix-i c = inside c
@@ -175,10 +175,10 @@ module _ (c : tie.After-grow) where
       (c .grow .ensures .0) (c .grow .ensures .1)
 
   zero-inside : zero-id .count ≤ length (zero-id .words)
-  zero-inside = stored-inside zero-id (stored-names narrow (record { update = got (read done) .stamp .update; id = zero-id }) (grown .0) .1)
+  zero-inside = lent-room (zero-id .count) (zero-id .words) (stored-names narrow (record { update = got (read done) .stamp .update; id = zero-id }) (grown .0) .1)
 
   one-inside : one-id .count ≤ length (one-id .words)
-  one-inside = stored-inside one-id (stored-names narrow (record { update = got (read done) .stamp .update; id = one-id }) (grown .1) .1)
+  one-inside = lent-room (one-id .count) (one-id .words) (stored-names narrow (record { update = got (read done) .stamp .update; id = one-id }) (grown .1) .1)
 
 array-share-prefix-u : tie.Need-array-share-prefix-u
 array-share-prefix-u c = inside-update (done c)

@@ -22,7 +22,7 @@ use Rattle.laws.proofs.Lawful.{lawful-join}
 use Rattle.laws.proofs.Stored.{stored-lawful, held-stored}
 use Rattle.names.proofs.Shape.{stored-full}
 use Rattle.stamps.proofs.Laws.{stored-names}
-use Rattle.packed.proofs.Lent.{givenBy, read-is}
+use Rattle.reading.proofs.Lent.{givenBy, read-is}
 use Rattle.calls.specs.Joins.{wroteJoin}
 use Rattle.calls.proofs.Laws.{tells-same, tells-refused, read-stored}
 use Rattle.calls.proofs.join.Statement.{statement}

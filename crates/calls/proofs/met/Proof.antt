@@ -7,8 +7,7 @@ use Rattle.rules.specs.Limits.{narrow}
 use Rattle.rules.specs.declared.Record.{Record}
 use Rattle.walks.proofs.Meets.{meet-walk}
 use Rattle.stamps.specs.Lent.{stamp}
-use Rattle.stamps.proofs.Laws.{stored-names}
-use Rattle.packed.proofs.Writing.{stored-inside}
+use Rattle.stamps.proofs.Laws.{stored-names, lent-room}
 use Rattle.calls.proofs.met.Statement.{statement}
 use Rattle.calls.proofs.met.Tie as tie
 
@@ -23,22 +22,22 @@ module _ (g : tie.Start) where
 slice-aggregate-meet : tie.Need-slice-aggregate-meet
 slice-aggregate-meet c =
     let g = c .before .before .before .before .before in
-    sym (length-take-le (g .args .uc) (g .args .u .now) (stored-inside (one g .update) (stored-names narrow (one g) (g .pre .0) .0)))
+    sym (length-take-le (g .args .uc) (g .args .u .now) (lent-room (one g .update .count) (one g .update .words) (stored-names narrow (one g) (g .pre .0) .0)))
 
 slice-aggregate-meet-2 : tie.Need-slice-aggregate-meet-2
 slice-aggregate-meet-2 c =
     let g = c .before .before .before .before .before .before in
-    sym (length-take-le (g .args .ic) (g .args .i .now) (stored-inside (one g .id) (stored-names narrow (one g) (g .pre .0) .1)))
+    sym (length-take-le (g .args .ic) (g .args .i .now) (lent-room (one g .id .count) (one g .id .words) (stored-names narrow (one g) (g .pre .0) .1)))
 
 slice-aggregate-meet-3 : tie.Need-slice-aggregate-meet-3
 slice-aggregate-meet-3 c =
     let g = c .before .before .before .before .before .before .before in
-    sym (length-take-le (g .args .vc) (g .args .v .now) (stored-inside (other g .update) (stored-names narrow (other g) (g .pre .1) .0)))
+    sym (length-take-le (g .args .vc) (g .args .v .now) (lent-room (other g .update .count) (other g .update .words) (stored-names narrow (other g) (g .pre .1) .0)))
 
 slice-aggregate-meet-4 : tie.Need-slice-aggregate-meet-4
 slice-aggregate-meet-4 c =
     let g = c .before .before .before .before .before .before .before .before in
-    sym (length-take-le (g .args .jc) (g .args .j .now) (stored-inside (other g .id) (stored-names narrow (other g) (g .pre .1) .1)))
+    sym (length-take-le (g .args .jc) (g .args .j .now) (lent-room (other g .id .count) (other g .id .words) (stored-names narrow (other g) (g .pre .1) .1)))
 
 meet-requires : tie.Need-meet-requires
 meet-requires c κs = search needs

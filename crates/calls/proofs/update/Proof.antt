@@ -20,9 +20,9 @@ use Rattle.rules.specs.declared.Answer.the-variants.{Done, Refused}
 use Rattle.rules.specs.declared.Written.the-variants.{Refused as NotWritten}
 use Rattle.names.proofs.Shape.{stored-full}
 use Rattle.stamps.proofs.Laws.{stored-few, stored-names, updated-is}
-use Rattle.packed.specs.Fits.{writtenNames}
-use Rattle.packed.proofs.Lent.{givenBy, read-is}
-use Rattle.packed.proofs.Writing.{written-is}
+use Rattle.writing.specs.Fits.{writtenNames}
+use Rattle.reading.proofs.Lent.{givenBy, read-is}
+use Rattle.writing.proofs.Writing.{written-is}
 use Rattle.calls.proofs.Laws as laws
 use Rattle.calls.proofs.Laws.{tells-same, tells-refused, read-stored, updated-done, updated-stored}
 use Rattle.calls.proofs.update.Statement.{statement}

@@ -22,11 +22,12 @@ use Rattle.rules.specs.declared.Written.the-variants.{Refused as NotWritten}
 use Rattle.laws.proofs.Lawful.{lawful-join}
 use Rattle.laws.proofs.Stored.{stored-lawful}
 use Rattle.stamps.specs.Lent.{stamp}
-use Rattle.stamps.proofs.Laws.{stored-names}
+use Rattle.stamps.proofs.Laws.{stored-names, lent-room}
 use Rattle.unions.specs.declared.Joined.{Joined}
 use Rattle.unions.proofs.Joining.{Told, records-joined}
-use Rattle.packed.specs.Fits.{told, writtenNames}
-use Rattle.packed.proofs.Writing.{both, lawful-fits, stored-inside}
+use Rattle.layout.specs.Words.{stampOf}
+use Rattle.writing.specs.Fits.{writtenNames}
+use Rattle.writing.proofs.Writing.{both, lawful-fits}
 use Rattle.calls.specs.Joins.{wroteJoin}
 use Rattle.calls.proofs.write_joined.Statement.{statement}
 use Rattle.calls.proofs.write_joined.Tie as tie
@@ -48,7 +49,7 @@ module _ (a b : Record) (ha : isStored narrow a ≡ true) (hb : isStored narrow 
     unfolding many
     few = le-ltb 16 (length (j .id)) (omega (arith, id-count))
 
-    told-is : told (take (r .update) us) (take (r .id) is) ≡ j
+    told-is : stampOf (take (r .update) us) (take (r .id) is) ≡ j
     told-is = ap₂ (λ (u i : Name). record { update = u; id = i }) (t .update) (t .id)
 
     is-lawful : lawful narrow j ≡ true
@@ -69,22 +70,22 @@ module _ (g : tie.Start) where
 slice-aggregate-join : tie.Need-slice-aggregate-join
 slice-aggregate-join c =
     let g = c .before .before .before .before .before .before in
-    sym (length-take-le (g .args .uc) (g .args .u .now) (stored-inside (one g .update) (stored-names narrow (one g) (g .pre .0) .0)))
+    sym (length-take-le (g .args .uc) (g .args .u .now) (lent-room (one g .update .count) (one g .update .words) (stored-names narrow (one g) (g .pre .0) .0)))
 
 slice-aggregate-join-2 : tie.Need-slice-aggregate-join-2
 slice-aggregate-join-2 c =
     let g = c .before .before .before .before .before .before .before in
-    sym (length-take-le (g .args .ic) (g .args .i .now) (stored-inside (one g .id) (stored-names narrow (one g) (g .pre .0) .1)))
+    sym (length-take-le (g .args .ic) (g .args .i .now) (lent-room (one g .id .count) (one g .id .words) (stored-names narrow (one g) (g .pre .0) .1)))
 
 slice-aggregate-join-3 : tie.Need-slice-aggregate-join-3
 slice-aggregate-join-3 c =
     let g = c .before .before .before .before .before .before .before .before in
-    sym (length-take-le (g .args .vc) (g .args .v .now) (stored-inside (other g .update) (stored-names narrow (other g) (g .pre .1) .0)))
+    sym (length-take-le (g .args .vc) (g .args .v .now) (lent-room (other g .update .count) (other g .update .words) (stored-names narrow (other g) (g .pre .1) .0)))
 
 slice-aggregate-join-4 : tie.Need-slice-aggregate-join-4
 slice-aggregate-join-4 c =
     let g = c .before .before .before .before .before .before .before .before .before in
-    sym (length-take-le (g .args .jc) (g .args .j .now) (stored-inside (other g .id) (stored-names narrow (other g) (g .pre .1) .1)))
+    sym (length-take-le (g .args .jc) (g .args .j .now) (lent-room (other g .id .count) (other g .id .words) (stored-names narrow (other g) (g .pre .1) .1)))
 
 slice-aggregate-join-5 : tie.Need-slice-aggregate-join-5
 slice-aggregate-join-5 c = search needs

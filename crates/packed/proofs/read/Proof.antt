@@ -1,6 +1,6 @@
 -- `packed::read` meets its contract: a name's words over zeros are all that its record holds. Assumes nothing.
 use borrow.Author.Needs.{needs}
-use Rattle.packed.proofs.Lent.{read-is}
+use Rattle.reading.proofs.Lent.{read-is}
 use Rattle.packed.proofs.read.Statement.{statement}
 use Rattle.packed.proofs.read.Tie as tie
 

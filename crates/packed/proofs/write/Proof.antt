@@ -12,8 +12,8 @@ use Rattle.rules.specs.Packed.{wrote, writtenStamp}
 use Rattle.rules.specs.declared.Record.{Record}
 use Rattle.rules.specs.declared.Refusal.the-variants.{Unlawful}
 use Rattle.rules.specs.declared.Written.the-variants.{Refused as NotWritten}
-use Rattle.stamps.proofs.Laws.{stored-names}
-use Rattle.packed.proofs.Writing.{written-is, stored-inside, both}
+use Rattle.stamps.proofs.Laws.{stored-names, lent-room}
+use Rattle.writing.proofs.Writing.{written-is, both}
 use Rattle.packed.proofs.write.Statement.{statement}
 use Rattle.packed.proofs.write.Tie as tie
 
@@ -29,14 +29,14 @@ array-share-prefix-u c =
     let f = c .before .before in
     let t = f .before in
     let r = t .before .before .args .r in
-    stored-inside (r .update) (stored-names narrow r (sym (t .is-lawful .ensures) ∙ f .if1 .taken) .0)
+    lent-room (r .update .count) (r .update .words) (stored-names narrow r (sym (t .is-lawful .ensures) ∙ f .if1 .taken) .0)
 
 slice-aggregate-write-from : tie.Need-slice-aggregate-write-from
 slice-aggregate-write-from c =
     let f = c .before .before .before in
     let t = f .before in
     let r = t .before .before .args .r in
-    let inside = stored-inside (r .update) (stored-names narrow r (sym (t .is-lawful .ensures) ∙ f .if1 .taken) .0) in
+    let inside = lent-room (r .update .count) (r .update .words) (stored-names narrow r (sym (t .is-lawful .ensures) ∙ f .if1 .taken) .0) in
     sym (length-take-le (r .update .count) (r .update .words) inside)
 
 array-share-prefix-i : tie.Need-array-share-prefix-i
@@ -44,14 +44,14 @@ array-share-prefix-i c =
     let f = c .before .before .before in
     let t = f .before in
     let r = t .before .before .args .r in
-    stored-inside (r .id) (stored-names narrow r (sym (t .is-lawful .ensures) ∙ f .if1 .taken) .1)
+    lent-room (r .id .count) (r .id .words) (stored-names narrow r (sym (t .is-lawful .ensures) ∙ f .if1 .taken) .1)
 
 slice-aggregate-write-from-2 : tie.Need-slice-aggregate-write-from-2
 slice-aggregate-write-from-2 c =
     let f = c .before .before .before .before in
     let t = f .before in
     let r = t .before .before .args .r in
-    let inside = stored-inside (r .id) (stored-names narrow r (sym (t .is-lawful .ensures) ∙ f .if1 .taken) .1) in
+    let inside = lent-room (r .id .count) (r .id .words) (stored-names narrow r (sym (t .is-lawful .ensures) ∙ f .if1 .taken) .1) in
     sym (length-take-le (r .id .count) (r .id .words) inside)
 
 write-from-requires : tie.Need-write-from-requires

@@ -23,13 +23,13 @@ is-lawful-in-requires c κs = search needs
 returns : tie.Need-returns
 returns c = let a = c .before .before in updated-is narrow (a .before .before .before .before .before .before .args .t1) (sym (a .is-lawful-in .ensures) ∙ c .before .if1 .taken)
 
-nothing-requires : tie.Need-nothing-requires
-nothing-requires c κs = search needs
+blank-requires : tie.Need-blank-requires
+blank-requires c κs = search needs
 
 returns-2 : tie.Need-returns-2
 returns-2 c =
     let a = c .before .before in
-    refused narrow (a .before .before .before .before .before .before .args .t1) (c .nothing .result) (sym (a .is-lawful-in .ensures) ∙ c .before .if1 .left) (c .nothing .ensures)
+    refused narrow (a .before .before .before .before .before .before .args .t1) (c .blank .result) (sym (a .is-lawful-in .ensures) ∙ c .before .if1 .left) (c .blank .ensures)
 
 pub update-spec : {M : Type 1} → statement M
-update-spec = tie.close (tie.spec is-lawful-in-requires returns nothing-requires returns-2)
+update-spec = tie.close (tie.spec is-lawful-in-requires returns blank-requires returns-2)

@@ -7,15 +7,15 @@ use Rattle.rules.specs.Limits.{narrow}
 use Rattle.rules.specs.Packed.{comparedNumber}
 use Rattle.rules.specs.Tables.{compareAt, outside}
 use Rattle.rules.specs.declared.Record.{Record}
-use Rattle.tables.specs.Gates.{gateCode}
-use Rattle.tables.specs.Rules.{compareRule}
+use Rattle.slots.specs.Gates.{gateCode}
+use Rattle.slots.specs.Rules.{compareRule}
 use Rattle.tables.proofs.Tied.{gate-ok, compareCode, compare-tied}
 use Rattle.tables.proofs.Asks.{holds-true, holds-false}
 use Rattle.tables.proofs.Slots.{item, gateOf}
-use Rattle.tables.proofs.gate.Symbol as gate-def
-use Rattle.tables.proofs.gate.Met as gate-thm
-use Rattle.tables.proofs.compare_rule.Symbol as rule-def
-use Rattle.tables.proofs.compare_rule.Met as rule-thm
+use Rattle.slots.proofs.gate.Symbol as gate-def
+use Rattle.slots.proofs.gate.Met as gate-thm
+use Rattle.slots.proofs.compare_rule.Symbol as rule-def
+use Rattle.slots.proofs.compare_rule.Met as rule-thm
 use Rattle.tables.proofs.compare.Key.{name as #compare}
 use Rattle.tables.proofs.compare.Statement as stated
 use Rattle.tables.proofs.compare.Code as code
@@ -56,5 +56,5 @@ compare-spec 𝓤 H 𝓜 𝓖 𝓡 =
     entered 𝓤 H _ (tables 𝓤 H 𝓜 𝓡 code.env .C) (tables 𝓤 H 𝓜 𝓡 code.env .Λ) #compare code.function (code.unfolded 𝓤 H 𝓜 𝓡)
     (looks item (number ∷ number ∷ []) number 𝓤 H (𝓖 .A) said (givenOf 𝓤 H 𝓜 𝓖) (tablesOf 𝓤 H 𝓜 (tables 𝓤 H 𝓜 𝓡 code.env)) code.function _ refl
     (walk 𝓤 H (𝓖 .A) (givenOf 𝓤 H 𝓜 𝓖) (tablesOf 𝓤 H 𝓜 (tables 𝓤 H 𝓜 𝓡 code.env))
-    (cited 𝓤 H _ 𝓜 𝓡 code.env gate-def.name gate-def.routine code.calls-tables·gate (gate-thm.met 𝓤 H 𝓜 𝓖 𝓡))
-    (cited 𝓤 H _ 𝓜 𝓡 code.env rule-def.name rule-def.routine code.calls-tables·compare-rule (rule-thm.met 𝓤 H 𝓜 𝓖 𝓡))))
+    (cited 𝓤 H _ 𝓜 𝓡 code.env gate-def.name gate-def.routine code.calls-slots·gate (gate-thm.met 𝓤 H 𝓜 𝓖 𝓡))
+    (cited 𝓤 H _ 𝓜 𝓡 code.env rule-def.name rule-def.routine code.calls-slots·compare-rule (rule-thm.met 𝓤 H 𝓜 𝓖 𝓡))))

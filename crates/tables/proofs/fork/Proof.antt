@@ -5,7 +5,7 @@ use Rattle.frames.proofs.Walk.{relends, leaves, number, Says, Walk, lends, Tell
 use Rattle.frames.proofs.Walk.{hands, Answers, asks}
 use Rattle.rules.specs.Limits.{narrow}
 use Rattle.rules.specs.Tables.{slotNumber, forkAt}
-use Rattle.tables.specs.Rules.{forkCode, forkList}
+use Rattle.tables.specs.Forks.{forkCode, forkList}
 use Rattle.tables.proofs.Tied.{forkSlot, fork-tied}
 use Rattle.tables.proofs.Slots.{item}
 use Rattle.tables.proofs.lowest_absent.Symbol as pass-def

@@ -2,20 +2,21 @@
 use contract.Running.{givenOf, tables, tablesOf}
 use denote.Triple.Table.{entered, cited}
 use Rattle.tables.proofs.Pair.{pair-meets}
-use Rattle.tables.proofs.gate.Symbol as gate-def
-use Rattle.tables.proofs.gate.Met as gate-thm
-use Rattle.tables.proofs.fork_rule.Symbol as rule-def
-use Rattle.tables.proofs.fork_rule.Met as rule-thm
+use Rattle.slots.proofs.gate.Symbol as gate-def
+use Rattle.slots.proofs.gate.Met as gate-thm
+use Rattle.slots.proofs.fork_rule.Symbol as rule-def
+use Rattle.slots.proofs.fork_rule.Met as rule-thm
 use Rattle.tables.proofs.fork_at.Key.{name as #fork-at}
 use Rattle.tables.proofs.fork_at.Statement as stated
 use Rattle.tables.proofs.fork_at.Code as code
 use mathlib.Core.Path.{refl}
-use Rattle.tables.specs.Rules.{forkRule, forkCode, forkList}
+use Rattle.slots.specs.Rules.{forkRule}
+use Rattle.tables.specs.Forks.{forkCode, forkList}
 
 pub fork-at-spec : {M : Type 1} → stated.statement M
 unfolding code.routine tablesOf
 fork-at-spec 𝓤 H 𝓜 𝓖 𝓡 =
     entered 𝓤 H _ (tables 𝓤 H 𝓜 𝓡 code.env .C) (tables 𝓤 H 𝓜 𝓡 code.env .Λ) #fork-at code.function (code.unfolded 𝓤 H 𝓜 𝓡)
     (pair-meets rule-def.name forkRule forkCode forkList (λ ys i j. (refl, refl)) 𝓤 H (𝓖 .A) (givenOf 𝓤 H 𝓜 𝓖) (tablesOf 𝓤 H 𝓜 (tables 𝓤 H 𝓜 𝓡 code.env))
-    (cited 𝓤 H _ 𝓜 𝓡 code.env gate-def.name gate-def.routine code.calls-tables·gate (gate-thm.met 𝓤 H 𝓜 𝓖 𝓡))
-    (cited 𝓤 H _ 𝓜 𝓡 code.env rule-def.name rule-def.routine code.calls-tables·fork-rule (rule-thm.met 𝓤 H 𝓜 𝓖 𝓡)))
+    (cited 𝓤 H _ 𝓜 𝓡 code.env gate-def.name gate-def.routine code.calls-slots·gate (gate-thm.met 𝓤 H 𝓜 𝓖 𝓡))
+    (cited 𝓤 H _ 𝓜 𝓡 code.env rule-def.name rule-def.routine code.calls-slots·fork-rule (rule-thm.met 𝓤 H 𝓜 𝓖 𝓡)))

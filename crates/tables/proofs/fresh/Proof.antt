@@ -11,16 +11,16 @@ use Rattle.rules.specs.Limits.{narrow}
 use Rattle.rules.specs.Tables.{slotNumber, makeFresh}
 use Rattle.rules.specs.declared.Record.{Record}
 use Rattle.rules.proofs.Record as T
-use Rattle.tables.specs.Gates.{roomOf, roomCode, freshSlot}
+use Rattle.slots.specs.Gates.{gateCode, roomOf, freshSlot}
 use Rattle.tables.proofs.Asks.{holds-true, holds-false}
 use Rattle.tables.proofs.Filled.{filledTo, filled-more, filled-length, fresh-is, room-le}
-use Rattle.tables.proofs.Slots.{item}
-use Rattle.tables.proofs.room.Symbol as room-def
-use Rattle.tables.proofs.room.Met as room-thm
-use Rattle.tables.proofs.room_code.Symbol as code-def
-use Rattle.tables.proofs.room_code.Met as code-thm
-use Rattle.tables.proofs.fresh_slot.Symbol as slot-def
-use Rattle.tables.proofs.fresh_slot.Met as slot-thm
+use Rattle.tables.proofs.Slots.{item, gateOf}
+use Rattle.slots.proofs.room.Symbol as room-def
+use Rattle.slots.proofs.room.Met as room-thm
+use Rattle.slots.proofs.gate.Symbol as gate-def
+use Rattle.slots.proofs.gate.Met as gate-thm
+use Rattle.slots.proofs.fresh_slot.Symbol as slot-def
+use Rattle.slots.proofs.fresh_slot.Met as slot-thm
 use Rattle.tables.proofs.fresh.Key.{name as #fresh}
 use Rattle.tables.proofs.fresh.Statement as stated
 use Rattle.tables.proofs.fresh.Code as code
@@ -42,7 +42,7 @@ fewer-wf m = record { apply = λ t. InvImage·accessible (λ (u : At m). m - u .
 module _ {M : Type 1} (𝓤 : URA M) (H : Heap 𝓤) (A : Atoms 𝓤) (W : Given 𝓤 H A) (𝓣 : Tables 𝓤 H)
     (known-room : Triple 𝓤 (𝓣 .C room-def.name) (Gives 𝓤 H A (number ∷ []) number (λ a. roomOf (a .0))))
     (known-slot : Triple 𝓤 (𝓣 .C slot-def.name) (Gives 𝓤 H A (number ∷ []) item (λ a. freshSlot (a .0))))
-    (known-code : Triple 𝓤 (𝓣 .C code-def.name) (Gives 𝓤 H A (number ∷ []) number (λ a. roomCode (a .0)))) where
+    (known-gate : Triple 𝓤 (𝓣 .C gate-def.name) (Gives 𝓤 H A (number ∷ number ∷ number ∷ []) number gateOf)) where
   module _ (b o : ℕ) (ys : List Record) (gn : Room T.the-row (length ys)) (gm : roomOf (length ys) < 2 ^ 64) (Post : Val → SProp 𝓤) (S : Fml)
       (bs : Blocks (code.function .locals)) where
     abbrev m : ℕ
@@ -76,10 +76,12 @@ module _ {M : Type 1} (𝓤 : URA M) (H : Heap 𝓤) (A : Atoms 𝓤) (W : Given
         turns-to ! here t (record { i = t .i + 1; le = omega arith }) (omega arith) $
         forgets ! (5 ∷ 6 ∷ 7 ∷ 8 ∷ []) refl $ rewrite ! 10 (λ (ws : List Record). ‵ (row T.the-row fullShare ws b o)) (filled-more (t .i) ys) refl $ done !))
         (λ no. let h : m ≤ t .i = ltb-false _ _ (holds-false (ltb (t .i) m) no) in let e : t .i ≡ m = omega (arith, t .le) in
-        calls-by ! (fmOf 𝓤 H (W .laws) 𝓣) (number ∷ []) number (λ a. roomCode (a .0)) known-code (m, tt) ((refl, gm), tt) (and-then ! (var ! refl) (no-more !))
-        refl refl (λ ic.
-        returns ! (look ! 0 refl) $ leaves ! refl refl $ by ! (closes zs (roomCode m) (filled-length (t .i) ys)
-        (fresh-is ys .0, ap (λ (k : ℕ). filledTo k ys) e ∙ fresh-is ys .1) ic)))
+        sets ! (of-opd ! (piece ! refl refl refl)) refl (tt, record { fits = gn .0 }) $
+        calls-by ! (fmOf 𝓤 H (W .laws) 𝓣) (number ∷ number ∷ number ∷ []) number gateOf known-gate (length ys, (0, (0, tt)))
+        ((refl, gn .0), ((refl, lit< tt), ((refl, lit< tt), tt)))
+        (and-then ! (var ! refl) (and-then ! (lit ! tt) (and-then ! (lit ! tt) (no-more !)))) refl refl (λ ig.
+        returns ! (look ! 0 refl) $ leaves ! refl refl $ by ! (closes zs (gateCode (length ys) 0 0) (filled-length (t .i) ys)
+        (fresh-is ys .0, ap (λ (k : ℕ). filledTo k ys) e ∙ fresh-is ys .1) ig)))
 
   walk : Walk item [] number 𝓤 H A said W 𝓣 code.function
   unfolding filledTo
@@ -97,6 +99,6 @@ fresh-spec 𝓤 H 𝓜 𝓖 𝓡 =
     entered 𝓤 H _ (tables 𝓤 H 𝓜 𝓡 code.env .C) (tables 𝓤 H 𝓜 𝓡 code.env .Λ) #fresh code.function (code.unfolded 𝓤 H 𝓜 𝓡)
     (lends item [] number 𝓤 H (𝓖 .A) said (givenOf 𝓤 H 𝓜 𝓖) (tablesOf 𝓤 H 𝓜 (tables 𝓤 H 𝓜 𝓡 code.env)) code.function _ refl
     (walk 𝓤 H (𝓖 .A) (givenOf 𝓤 H 𝓜 𝓖) (tablesOf 𝓤 H 𝓜 (tables 𝓤 H 𝓜 𝓡 code.env))
-    (cited 𝓤 H _ 𝓜 𝓡 code.env room-def.name room-def.routine code.calls-tables·room (room-thm.met 𝓤 H 𝓜 𝓖 𝓡))
-    (cited 𝓤 H _ 𝓜 𝓡 code.env slot-def.name slot-def.routine code.calls-tables·fresh-slot (slot-thm.met 𝓤 H 𝓜 𝓖 𝓡))
-    (cited 𝓤 H _ 𝓜 𝓡 code.env code-def.name code-def.routine code.calls-tables·room-code (code-thm.met 𝓤 H 𝓜 𝓖 𝓡))))
+    (cited 𝓤 H _ 𝓜 𝓡 code.env room-def.name room-def.routine code.calls-slots·room (room-thm.met 𝓤 H 𝓜 𝓖 𝓡))
+    (cited 𝓤 H _ 𝓜 𝓡 code.env slot-def.name slot-def.routine code.calls-slots·fresh-slot (slot-thm.met 𝓤 H 𝓜 𝓖 𝓡))
+    (cited 𝓤 H _ 𝓜 𝓡 code.env gate-def.name gate-def.routine code.calls-slots·gate (gate-thm.met 𝓤 H 𝓜 𝓖 𝓡))))

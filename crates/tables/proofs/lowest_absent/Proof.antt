@@ -11,29 +11,30 @@ use denote.Slice.{sliceVal}
 use Rattle.rules.specs.Tables.{outside}
 use Rattle.rules.specs.declared.Record.{Record}
 use Rattle.rules.proofs.Record as T
-use Rattle.tables.specs.Gates.{roomOf}
-use Rattle.tables.specs.Scans.{foundOr, scanOf, seekOf}
+use Rattle.slots.specs.Gates.{roomOf}
+use Rattle.slots.specs.Scans.{foundOr, absentOrNext}
+use Rattle.tables.specs.Passes.{scanOf}
 use Rattle.tables.proofs.Asks.{holds-true, holds-false}
-use Rattle.tables.proofs.Passes.{room-few, goes-up, scan-more, scan-end, seek-goes}
+use Rattle.tables.proofs.Passes.{room-few, goes-up, scan-more, scan-end, absent-goes}
 use Rattle.tables.proofs.Slots.{item}
-use Rattle.tables.proofs.room.Symbol as room-def
-use Rattle.tables.proofs.room.Met as room-thm
-use Rattle.tables.proofs.seek.Symbol as seek-def
-use Rattle.tables.proofs.seek.Met as seek-thm
-use Rattle.tables.proofs.found_or.Symbol as last-def
-use Rattle.tables.proofs.found_or.Met as last-thm
+use Rattle.slots.proofs.room.Symbol as room-def
+use Rattle.slots.proofs.room.Met as room-thm
+use Rattle.slots.proofs.absent_or_next.Symbol as seek-def
+use Rattle.slots.proofs.absent_or_next.Met as seek-thm
+use Rattle.slots.proofs.found_or.Symbol as last-def
+use Rattle.slots.proofs.found_or.Met as last-thm
 use Rattle.tables.proofs.lowest_absent.Key.{name as #lowest-absent}
 use Rattle.tables.proofs.lowest_absent.Statement as stated
 use Rattle.tables.proofs.lowest_absent.Code as code
 
 abbrev said : Tells item (number ∷ []) number
-said κs ys a r = r ≡ foundOr (scanOf seekOf 0 ys) (a .0)
+said κs ys a r = r ≡ foundOr (scanOf absentOrNext 0 ys) (a .0)
 
 -- where the pass stands
 record At (ys : List Record) : Type 0 where
   k : ℕ
   fits : k < 2 ^ 64
-  same : scanOf seekOf k ys ≡ scanOf seekOf 0 ys
+  same : scanOf absentOrNext k ys ≡ scanOf absentOrNext 0 ys
 
 abbrev fewer : (ys : List Record) → At ys → At ys → Type 0
 fewer ys u t = roomOf (length ys) - u .k < roomOf (length ys) - t .k
@@ -43,7 +44,7 @@ fewer-wf ys = record { apply = λ t. InvImage·accessible (λ (u : At ys). roomO
 
 module _ {M : Type 1} (𝓤 : URA M) (H : Heap 𝓤) (A : Atoms 𝓤) (W : Given 𝓤 H A) (𝓣 : Tables 𝓤 H)
     (known-room : Triple 𝓤 (𝓣 .C room-def.name) (Gives 𝓤 H A (number ∷ []) number (λ a. roomOf (a .0))))
-    (known-seek : Triple 𝓤 (𝓣 .C seek-def.name) (Gives 𝓤 H A (number ∷ item ∷ []) number (λ a. seekOf (a .0) (a .1 .0))))
+    (known-seek : Triple 𝓤 (𝓣 .C seek-def.name) (Gives 𝓤 H A (number ∷ item ∷ []) number (λ a. absentOrNext (a .0) (a .1 .0))))
     (known-last : Triple 𝓤 (𝓣 .C last-def.name) (Gives 𝓤 H A (number ∷ number ∷ []) number (λ a. foundOr (a .0) (a .1 .0)))) where
   module _ (κs : Lfts 1) (b o : ℕ) (ys : List Record) (a : Ins 1 κs (number ∷ [])) (gn : Room T.the-row (length ys)) (ga : a .0 < 2 ^ 64) (s : Share)
       (Post : Val → SProp 𝓤) (S : Fml) (bs : Blocks (code.function .locals)) where
@@ -67,20 +68,20 @@ module _ {M : Type 1} (𝓤 : URA M) (H : Heap 𝓤) (A : Atoms 𝓤) (W : Given
     turns : Shuts item (number ∷ []) number 𝓤 H A said κs b o ys a s Post S → (t : At ys) → Sq W (here .head-at t)
         (runs (𝓣 .C) (𝓣 .Λ) (here .env) code.Mir.turn-1 (Turn here t))
     turns shuts t =
-        let e : Record = getD ys (t .k) outside in let n : ℕ = seekOf (t .k) e in
+        let e : Record = getD ys (t .k) outside in let n : ℕ = absentOrNext (t .k) e in
         sets ! (bin ! (var ! refl) (var ! refl) tt) refl (tt, tt) $ tests ! here t (var ! refl)
         (λ yes. let l : t .k < m = ltb-true _ _ (holds-true (ltb (t .k) m) yes) in let h = room-few (length ys) (t .k) l in
-        let up : t .k < n = goes-up seekOf seek-goes (t .k) e (omega (arith, h .0, h .1)) in
+        let up : t .k < n = goes-up absentOrNext absent-goes (t .k) e (omega (arith, h .0, h .1)) in
         fetch ! item s ys (t .k) outside b o (h .0) gn 11 refl refl (λ g.
-        calls-last ! here t (number ∷ item ∷ []) number (λ a. seekOf (a .0) (a .1 .0)) known-seek (t .k, (e, tt)) ((refl, t .fits), (g, tt))
+        calls-last ! here t (number ∷ item ∷ []) number (λ a. absentOrNext (a .0) (a .1 .0)) known-seek (t .k, (e, tt)) ((refl, t .fits), (g, tt))
         (and-then ! (var ! refl) (and-then ! (var ! refl) (no-more !))) refl refl (λ is.
-        turns-to ! here t (record { k = n; fits = is .1; same = scan-more seekOf seek-goes (t .k) ys l ∙ t .same }) (omega (arith, up)) $
+        turns-to ! here t (record { k = n; fits = is .1; same = scan-more absentOrNext absent-goes (t .k) ys l ∙ t .same }) (omega (arith, up)) $
         forgets ! (6 ∷ 7 ∷ 8 ∷ 9 ∷ []) refl $ done !)))
         (λ no. let h : m ≤ t .k = ltb-false _ _ (holds-false (ltb (t .k) m) no) in
         calls-by ! (fmOf 𝓤 H (W .laws) 𝓣) (number ∷ number ∷ []) number (λ a. foundOr (a .0) (a .1 .0)) known-last (t .k, (a .0, tt))
         ((refl, t .fits), ((refl, ga), tt)) (and-then ! (var ! refl) (and-then ! (var ! refl) (no-more !))) refl refl (λ is.
         returns ! (look ! 0 refl) $ leaves ! refl refl $ by ! (shuts (foundOr (t .k) (a .0))
-        (ap (λ (k : ℕ). foundOr k (a .0)) (sym (scan-end seekOf (t .k) ys h) ∙ t .same)) is)))
+        (ap (λ (k : ℕ). foundOr k (a .0)) (sym (scan-end absentOrNext (t .k) ys h) ∙ t .same)) is)))
 
   walk : Look item (number ∷ []) number 𝓤 H A said W 𝓣 code.function
   walk κs b o ys a gn good s Post S shuts bs =
@@ -97,6 +98,6 @@ lowest-absent-spec 𝓤 H 𝓜 𝓖 𝓡 =
     entered 𝓤 H _ (tables 𝓤 H 𝓜 𝓡 code.env .C) (tables 𝓤 H 𝓜 𝓡 code.env .Λ) #lowest-absent code.function (code.unfolded 𝓤 H 𝓜 𝓡)
     (looks item (number ∷ []) number 𝓤 H (𝓖 .A) said (givenOf 𝓤 H 𝓜 𝓖) (tablesOf 𝓤 H 𝓜 (tables 𝓤 H 𝓜 𝓡 code.env)) code.function _ refl
     (walk 𝓤 H (𝓖 .A) (givenOf 𝓤 H 𝓜 𝓖) (tablesOf 𝓤 H 𝓜 (tables 𝓤 H 𝓜 𝓡 code.env))
-    (cited 𝓤 H _ 𝓜 𝓡 code.env room-def.name room-def.routine code.calls-tables·room (room-thm.met 𝓤 H 𝓜 𝓖 𝓡))
-    (cited 𝓤 H _ 𝓜 𝓡 code.env seek-def.name seek-def.routine code.calls-tables·seek (seek-thm.met 𝓤 H 𝓜 𝓖 𝓡))
-    (cited 𝓤 H _ 𝓜 𝓡 code.env last-def.name last-def.routine code.calls-tables·found-or (last-thm.met 𝓤 H 𝓜 𝓖 𝓡))))
+    (cited 𝓤 H _ 𝓜 𝓡 code.env room-def.name room-def.routine code.calls-slots·room (room-thm.met 𝓤 H 𝓜 𝓖 𝓡))
+    (cited 𝓤 H _ 𝓜 𝓡 code.env seek-def.name seek-def.routine code.calls-slots·absent-or-next (seek-thm.met 𝓤 H 𝓜 𝓖 𝓡))
+    (cited 𝓤 H _ 𝓜 𝓡 code.env last-def.name last-def.routine code.calls-slots·found-or (last-thm.met 𝓤 H 𝓜 𝓖 𝓡))))

@@ -7,16 +7,17 @@ use Rattle.frames.proofs.Walk.{asks}
 use Rattle.rules.specs.Limits.{narrow}
 use Rattle.rules.specs.Tables.{spareAt, sparedNumber, outside}
 use Rattle.rules.specs.declared.Record.{Record}
-use Rattle.tables.specs.Gates.{gateCode}
-use Rattle.tables.specs.Scans.{foundOr, scanOf, weighOf, weighStart}
-use Rattle.tables.specs.declared.Scan.{Scan}
+use Rattle.slots.specs.Gates.{gateCode}
+use Rattle.slots.specs.Scans.{foundOr, weighOf, weighStart}
+use Rattle.tables.specs.Passes.{scanOf}
+use Rattle.slots.specs.declared.Scan.{Scan}
 use Rattle.tables.proofs.Tied.{gate-ok, spareCode, spare-tied}
 use Rattle.tables.proofs.Asks.{holds-true, holds-false}
 use Rattle.tables.proofs.Slots.{item, scan, gateOf}
-use Rattle.tables.proofs.gate.Symbol as gate-def
-use Rattle.tables.proofs.gate.Met as gate-thm
-use Rattle.tables.proofs.weigh_start.Symbol as start-def
-use Rattle.tables.proofs.weigh_start.Met as start-thm
+use Rattle.slots.proofs.gate.Symbol as gate-def
+use Rattle.slots.proofs.gate.Met as gate-thm
+use Rattle.slots.proofs.weigh_start.Symbol as start-def
+use Rattle.slots.proofs.weigh_start.Met as start-thm
 use Rattle.tables.proofs.weigh_all.Symbol as pass-def
 use Rattle.tables.proofs.weigh_all.Met as pass-thm
 use Rattle.tables.proofs.spare.Key.{name as #spare}
@@ -63,6 +64,6 @@ spare-spec 𝓤 H 𝓜 𝓖 𝓡 =
     entered 𝓤 H _ (tables 𝓤 H 𝓜 𝓡 code.env .C) (tables 𝓤 H 𝓜 𝓡 code.env .Λ) #spare code.function (code.unfolded 𝓤 H 𝓜 𝓡)
     (looks item (number ∷ []) number 𝓤 H (𝓖 .A) said (givenOf 𝓤 H 𝓜 𝓖) (tablesOf 𝓤 H 𝓜 (tables 𝓤 H 𝓜 𝓡 code.env)) code.function _ refl
     (walk 𝓤 H (𝓖 .A) (givenOf 𝓤 H 𝓜 𝓖) (tablesOf 𝓤 H 𝓜 (tables 𝓤 H 𝓜 𝓡 code.env))
-    (cited 𝓤 H _ 𝓜 𝓡 code.env gate-def.name gate-def.routine code.calls-tables·gate (gate-thm.met 𝓤 H 𝓜 𝓖 𝓡))
-    (cited 𝓤 H _ 𝓜 𝓡 code.env start-def.name start-def.routine code.calls-tables·weigh-start (start-thm.met 𝓤 H 𝓜 𝓖 𝓡))
+    (cited 𝓤 H _ 𝓜 𝓡 code.env gate-def.name gate-def.routine code.calls-slots·gate (gate-thm.met 𝓤 H 𝓜 𝓖 𝓡))
+    (cited 𝓤 H _ 𝓜 𝓡 code.env start-def.name start-def.routine code.calls-slots·weigh-start (start-thm.met 𝓤 H 𝓜 𝓖 𝓡))
     (cited 𝓤 H _ 𝓜 𝓡 code.env pass-def.name pass-def.routine code.calls-tables·weigh-all (pass-thm.met 𝓤 H 𝓜 𝓖 𝓡))))

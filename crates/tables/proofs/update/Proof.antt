@@ -7,18 +7,18 @@ use denote.Struct.Laws as LL
 use Rattle.rules.specs.Limits.{narrow}
 use Rattle.rules.specs.Tables.{slotNumber, updateAt, outside}
 use Rattle.rules.specs.declared.Record.{Record}
-use Rattle.tables.specs.declared.One.{One}
-use Rattle.tables.specs.Gates.{gateCode}
-use Rattle.tables.specs.Rules.{updateRule}
+use Rattle.slots.specs.declared.One.{One}
+use Rattle.slots.specs.Gates.{gateCode}
+use Rattle.slots.specs.Rules.{updateRule}
 use Rattle.tables.proofs.Tied.{gate-ok, updateCode, updateList, update-tied}
 use Rattle.tables.proofs.Asks.{holds-true, holds-false}
 use Rattle.tables.proofs.Slots.{item, one, gateOf}
-use Rattle.tables.proofs.One as D
-use Rattle.tables.proofs.One.Laws as D′
-use Rattle.tables.proofs.gate.Symbol as gate-def
-use Rattle.tables.proofs.gate.Met as gate-thm
-use Rattle.tables.proofs.update_rule.Symbol as rule-def
-use Rattle.tables.proofs.update_rule.Met as rule-thm
+use Rattle.slots.proofs.One as D
+use Rattle.slots.proofs.One.Laws as D′
+use Rattle.slots.proofs.gate.Symbol as gate-def
+use Rattle.slots.proofs.gate.Met as gate-thm
+use Rattle.slots.proofs.update_rule.Symbol as rule-def
+use Rattle.slots.proofs.update_rule.Met as rule-thm
 use Rattle.tables.proofs.update.Key.{name as #update}
 use Rattle.tables.proofs.update.Statement as stated
 use Rattle.tables.proofs.update.Code as code
@@ -62,5 +62,5 @@ update-spec 𝓤 H 𝓜 𝓖 𝓡 =
     entered 𝓤 H _ (tables 𝓤 H 𝓜 𝓡 code.env .C) (tables 𝓤 H 𝓜 𝓡 code.env .Λ) #update code.function (code.unfolded 𝓤 H 𝓜 𝓡)
     (lends item (number ∷ []) number 𝓤 H (𝓖 .A) said (givenOf 𝓤 H 𝓜 𝓖) (tablesOf 𝓤 H 𝓜 (tables 𝓤 H 𝓜 𝓡 code.env)) code.function _ refl
     (walk 𝓤 H (𝓖 .A) (givenOf 𝓤 H 𝓜 𝓖) (tablesOf 𝓤 H 𝓜 (tables 𝓤 H 𝓜 𝓡 code.env))
-    (cited 𝓤 H _ 𝓜 𝓡 code.env gate-def.name gate-def.routine code.calls-tables·gate (gate-thm.met 𝓤 H 𝓜 𝓖 𝓡))
-    (cited 𝓤 H _ 𝓜 𝓡 code.env rule-def.name rule-def.routine code.calls-tables·update-rule (rule-thm.met 𝓤 H 𝓜 𝓖 𝓡))))
+    (cited 𝓤 H _ 𝓜 𝓡 code.env gate-def.name gate-def.routine code.calls-slots·gate (gate-thm.met 𝓤 H 𝓜 𝓖 𝓡))
+    (cited 𝓤 H _ 𝓜 𝓡 code.env rule-def.name rule-def.routine code.calls-slots·update-rule (rule-thm.met 𝓤 H 𝓜 𝓖 𝓡))))

@@ -1,8 +1,8 @@
 -- `tables::weigh_all` meets its contract: a walk of its MIR: one loop over the lent run, with two covered steps. Assumes nothing.
 use Rattle.frames.proofs.Walk.{_≡_, refl, sym, ap, _∙_, List, [], _∷_, _++_, none, some, WellFounded, InvImage·accessible, Nat·lt-wfRel, ℕ, _<_, _≤_, _-_, _^_}
-use Rattle.frames.proofs.Walk.{ltb, arith, ltb-true, ltb-false, length, getD, w64, Val, vint}
+use Rattle.frames.proofs.Walk.{ltb, lit<, arith, ltb-true, ltb-false, length, getD, w64, Val, vint}
 use Rattle.frames.proofs.Walk.{URA, Heap, Tables, Atoms, SProp, Fml, fmOf, givenOf, tables, tablesOf, Given, ‵, Sq, runs, atRet, done, _$_, !, by, row, Room}
-use Rattle.frames.proofs.Walk.{look, and-then, no-more, of-opd, bin, returns, Triple, entered, cited}
+use Rattle.frames.proofs.Walk.{look, and-then, no-more, lit, of-opd, bin, returns, Triple, entered, cited}
 use Rattle.frames.proofs.Walk.{Blocks, envOf, deaths, frame-of, var, piece, sets, leaves, number, truth, Ins, Gives, calls-by, fetch, Tells, Shuts, Look, looks}
 use Rattle.frames.proofs.Walk.{Loop, Turn, whiles, tests, calls-last, turns-to, forgets}
 use base.Fml.{Share}
@@ -15,22 +15,23 @@ use Rattle.rules.specs.Stored.{absent}
 use Rattle.rules.specs.Tables.{outside}
 use Rattle.rules.specs.declared.Record.{Record}
 use Rattle.rules.proofs.Record as T
-use Rattle.tables.specs.Gates.{roomOf}
-use Rattle.tables.specs.declared.Scan.{Scan}
-use Rattle.tables.specs.Scans.{foundOr, scanOf, weighed, weighOf}
+use Rattle.slots.specs.Gates.{roomOf}
+use Rattle.slots.specs.declared.Scan.{Scan}
+use Rattle.slots.specs.Scans.{foundOr, weighed, weighOf}
+use Rattle.tables.specs.Passes.{scanOf}
 use Rattle.tables.proofs.Asks.{holds-true, holds-false}
 use Rattle.tables.proofs.Passes.{room-few, goes-up, scan-more, scan-end, weigh-goes}
-use Rattle.tables.proofs.Scan as Z
-use Rattle.tables.proofs.Scan.Laws as Z′
+use Rattle.slots.proofs.Scan as Z
+use Rattle.slots.proofs.Scan.Laws as Z′
 use Rattle.tables.proofs.Slots.{item, scan}
-use Rattle.tables.proofs.room.Symbol as room-def
-use Rattle.tables.proofs.room.Met as room-thm
-use Rattle.tables.proofs.is_absent.Symbol as absent-def
-use Rattle.tables.proofs.is_absent.Met as absent-thm
-use Rattle.tables.proofs.weigh.Symbol as weigh-def
-use Rattle.tables.proofs.weigh.Met as weigh-thm
-use Rattle.tables.proofs.found_code.Symbol as last-def
-use Rattle.tables.proofs.found_code.Met as last-thm
+use Rattle.slots.proofs.room.Symbol as room-def
+use Rattle.slots.proofs.room.Met as room-thm
+use Rattle.slots.proofs.is_absent.Symbol as absent-def
+use Rattle.slots.proofs.is_absent.Met as absent-thm
+use Rattle.slots.proofs.weigh.Symbol as weigh-def
+use Rattle.slots.proofs.weigh.Met as weigh-thm
+use Rattle.slots.proofs.found_or.Symbol as last-def
+use Rattle.slots.proofs.found_or.Met as last-thm
 use Rattle.tables.proofs.weigh_all.Key.{name as #weigh-all}
 use Rattle.tables.proofs.weigh_all.Statement as stated
 use Rattle.tables.proofs.weigh_all.Code as code
@@ -57,7 +58,7 @@ module _ {M : Type 1} (𝓤 : URA M) (H : Heap 𝓤) (A : Atoms 𝓤) (W : Given
     (known-room : Triple 𝓤 (𝓣 .C room-def.name) (Gives 𝓤 H A (number ∷ []) number (λ a. roomOf (a .0))))
     (known-absent : Triple 𝓤 (𝓣 .C absent-def.name) (Gives 𝓤 H A (item ∷ []) truth (λ a. absent narrow (a .0))))
     (known-weigh : Triple 𝓤 (𝓣 .C weigh-def.name) (Gives 𝓤 H A (scan ∷ number ∷ item ∷ truth ∷ []) number weighs))
-    (known-last : Triple 𝓤 (𝓣 .C last-def.name) (Gives 𝓤 H A (number ∷ []) number (λ a. foundOr (a .0) 0))) where
+    (known-last : Triple 𝓤 (𝓣 .C last-def.name) (Gives 𝓤 H A (number ∷ number ∷ []) number (λ a. foundOr (a .0) (a .1 .0)))) where
   module _ (κs : Lfts 1) (b o : ℕ) (ys : List Record) (a : Ins 1 κs (scan ∷ [])) (gn : Room T.the-row (length ys))
       (gc : Is Z.the-row (a .0) (scan .val (a .0) ∷ [])) (s : Share) (Post : Val → SProp 𝓤) (S : Fml) (bs : Blocks (code.function .locals)) where
     abbrev m : ℕ
@@ -93,8 +94,9 @@ module _ {M : Type 1} (𝓤 : URA M) (H : Heap 𝓤) (A : Atoms 𝓤) (W : Given
         turns-to ! here t (record { k = n; fits = is .1; same = scan-more (weighOf c) (weigh-goes c) (t .k) ys l ∙ t .same }) (omega (arith, up)) $
         forgets ! (6 ∷ 7 ∷ 8 ∷ 9 ∷ 10 ∷ 11 ∷ 12 ∷ []) refl $ done !)))))
         (λ no. let h : m ≤ t .k = ltb-false _ _ (holds-false (ltb (t .k) m) no) in
-        calls-by ! (fmOf 𝓤 H (W .laws) 𝓣) (number ∷ []) number (λ a. foundOr (a .0) 0) known-last (t .k, tt) ((refl, t .fits), tt)
-        (and-then ! (var ! refl) (no-more !)) refl refl (λ is.
+        calls-by ! (fmOf 𝓤 H (W .laws) 𝓣) (number ∷ number ∷ []) number (λ a. foundOr (a .0) (a .1 .0)) known-last (t .k, (0, tt))
+        ((refl, t .fits), ((refl, lit< tt), tt)) (and-then ! (var ! refl) (and-then ! (lit ! tt) (no-more !))) refl refl (λ is.
+        sets ! (of-opd ! (var ! refl)) refl (tt, record { fits = is .1 }) $
         returns ! (look ! 0 refl) $ leaves ! refl refl $ by ! (shuts (foundOr (t .k) 0)
         (ap (λ (k : ℕ). foundOr k 0) (sym (scan-end (weighOf c) (t .k) ys h) ∙ t .same)) is)))
 
@@ -114,7 +116,7 @@ weigh-all-spec 𝓤 H 𝓜 𝓖 𝓡 =
     entered 𝓤 H _ (tables 𝓤 H 𝓜 𝓡 code.env .C) (tables 𝓤 H 𝓜 𝓡 code.env .Λ) #weigh-all code.function (code.unfolded 𝓤 H 𝓜 𝓡)
     (looks item (scan ∷ []) number 𝓤 H (𝓖 .A) said (givenOf 𝓤 H 𝓜 𝓖) (tablesOf 𝓤 H 𝓜 (tables 𝓤 H 𝓜 𝓡 code.env)) code.function _ refl
     (walk 𝓤 H (𝓖 .A) (givenOf 𝓤 H 𝓜 𝓖) (tablesOf 𝓤 H 𝓜 (tables 𝓤 H 𝓜 𝓡 code.env))
-    (cited 𝓤 H _ 𝓜 𝓡 code.env room-def.name room-def.routine code.calls-tables·room (room-thm.met 𝓤 H 𝓜 𝓖 𝓡))
-    (cited 𝓤 H _ 𝓜 𝓡 code.env absent-def.name absent-def.routine code.calls-tables·is-absent (absent-thm.met 𝓤 H 𝓜 𝓖 𝓡))
-    (cited 𝓤 H _ 𝓜 𝓡 code.env weigh-def.name weigh-def.routine code.calls-tables·weigh (weigh-thm.met 𝓤 H 𝓜 𝓖 𝓡))
-    (cited 𝓤 H _ 𝓜 𝓡 code.env last-def.name last-def.routine code.calls-tables·found-code (last-thm.met 𝓤 H 𝓜 𝓖 𝓡))))
+    (cited 𝓤 H _ 𝓜 𝓡 code.env room-def.name room-def.routine code.calls-slots·room (room-thm.met 𝓤 H 𝓜 𝓖 𝓡))
+    (cited 𝓤 H _ 𝓜 𝓡 code.env absent-def.name absent-def.routine code.calls-slots·is-absent (absent-thm.met 𝓤 H 𝓜 𝓖 𝓡))
+    (cited 𝓤 H _ 𝓜 𝓡 code.env weigh-def.name weigh-def.routine code.calls-slots·weigh (weigh-thm.met 𝓤 H 𝓜 𝓖 𝓡))
+    (cited 𝓤 H _ 𝓜 𝓡 code.env last-def.name last-def.routine code.calls-slots·found-or (last-thm.met 𝓤 H 𝓜 𝓖 𝓡))))

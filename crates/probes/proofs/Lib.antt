@@ -1,0 +1,2 @@
+-- The record as the walks take it.
+pub mod Slots

@@ -1,0 +1,168 @@
+-- What the calls by value answer, as the table says it: a record that they refuse as unlawful is 12 there. Assumes nothing.
+use mathlib.Core.Path.{_≡_, refl, sym, ap, _∙_}
+use mathlib.Core.Bool.{Bool, true, false, cond}
+use mathlib.Core.List.{List, [], _∷_, _++_, map}
+use Prim.Native.Nat.{ℕ}
+use native.Mathlib.Omega.{arith}
+use Rattle.rules.specs.Limits.{narrow}
+use Rattle.rules.specs.Packed.{comparedNumber}
+use Rattle.rules.specs.Stamps.{Stamp, update, fork, join, compare}
+use Rattle.rules.specs.Stored.{stored, held, unlawful, blank}
+use Rattle.rules.specs.Refusals.{andThen, first, long, many}
+use Rattle.rules.specs.Values.{given, branches, meeting, told, updated, forked, joined, compared}
+use Rattle.rules.specs.declared.Record.{Record}
+use Rattle.rules.specs.declared.Refusal.{Refusal}
+use Rattle.rules.specs.declared.Refusal.the-variants.{Malformed, Unlawful, NoSlot, OneSlot, Full, Long, Many, Overlap, Unseen, Short, Unread, Unfit, Ended}
+use Rattle.rules.specs.declared.Answer.{Answer}
+use Rattle.rules.specs.declared.Answer.the-variants.{Done, Refused}
+use Rattle.rules.specs.declared.Verdict.{Verdict}
+use Rattle.rules.specs.declared.Verdict.the-variants.{Equal, Obsolete, Newer, Conflict}
+use Rattle.rules.specs.declared.Given.{Given}
+use Rattle.rules.specs.declared.Forked.{Forked}
+use Rattle.slots.specs.Gates.{codeOf}
+use Rattle.slots.specs.Rules.{refusedAt, atTable, tableCode, answerCode, pairTests, meetTests, oneOf, twoOf, fullCode, joinRule}
+
+-- ---- from a rule by value to the table
+
+pub table-code : (r : Refusal) → tableCode (codeOf r) ≡ codeOf (refusedAt r)
+unfolding tableCode
+table-code Malformed = refl
+table-code Unlawful = refl
+table-code NoSlot = refl
+table-code OneSlot = refl
+table-code Full = refl
+table-code Long = refl
+table-code Many = refl
+table-code Overlap = refl
+table-code Unseen = refl
+table-code Short = refl
+table-code Unread = refl
+table-code Unfit = refl
+table-code Ended = refl
+
+table-compared : (b : Answer) (v : Verdict) → tableCode (comparedNumber (told b v)) ≡ comparedNumber (told (atTable b) v)
+unfolding tableCode
+table-compared Done Equal = refl
+table-compared Done Obsolete = refl
+table-compared Done Newer = refl
+table-compared Done Conflict = refl
+table-compared (Refused r) v = table-code r
+
+-- what is asked in order is asked in the same order
+pub first-table : (ts : List (Bool × Refusal)) → atTable (first ts) ≡ first (map (λ (t : Bool × Refusal). (t .0, refusedAt (t .1))) ts)
+unfolding first
+first-table [] = refl
+first-table (t ∷ ts) = by (t .0) (first-table ts)
+  where
+    by : (b : Bool) → atTable (first ts) ≡ first (map (λ (t : Bool × Refusal). (t .0, refusedAt (t .1))) ts)
+        → atTable (cond b (Refused (t .1)) (first ts)) ≡ cond b (Refused (refusedAt (t .1))) (first (map (λ (t : Bool × Refusal). (t .0, refusedAt (t .1))) ts))
+    by true h = refl
+    by false h = h
+
+-- ---- what is given beside the answer is used where it is accepted
+
+two-given : (r : Answer) (n : ℕ) (s u : Record) (x : Stamp) (y : Record)
+    → (let g : Given = given narrow r x in twoOf (atTable (g .answer)) n s u (g .stamp) y) ≡ twoOf (atTable r) n s u (stored narrow x) y
+two-given Done n s u x y = refl
+two-given (Refused r) n s u x y = refl
+
+one-given : (r : Answer) (n : ℕ) (s : Record) (x : Stamp)
+    → (let g : Given = given narrow r x in oneOf (atTable (g .answer)) n s (g .stamp)) ≡ oneOf (atTable r) n s (stored narrow x)
+one-given Done n s x = refl
+one-given (Refused r) n s x = refl
+
+two-branches : (r : Answer) (n : ℕ) (s u : Record) (x y : Stamp)
+    → (let f : Forked = branches narrow r x y in twoOf (atTable (f .answer)) n s u (f .zero) (f .one))
+    ≡ twoOf (atTable r) n s u (stored narrow x) (stored narrow y)
+two-branches Done n s u x y = refl
+two-branches (Refused r) n s u x y = refl
+
+-- ---- the calls
+
+pub update-form : (n : ℕ) (s : Record)
+    → (let g : Given = updated narrow s in oneOf (atTable (g .answer)) n s (g .stamp))
+    ≡ oneOf (first ((unlawful narrow s, Unfit) ∷ [])) n s (stored narrow (update (held s)))
+unfolding updated
+update-form n s =
+    let ts : List (Bool × Refusal) = (unlawful narrow s, Unlawful) ∷ [] in
+    one-given (first ts) n s (update (held s)) ∙ ap (λ (r : Answer). oneOf r n s (stored narrow (update (held s)))) (first-table ts)
+
+pub fork-form : (n : ℕ) (s u : Record)
+    → (let f : Forked = forked narrow s in twoOf (atTable (f .answer)) n s u (f .zero) (f .one))
+    ≡ twoOf (first ((unlawful narrow s, Unfit) ∷ (long narrow (held s), Long) ∷ [])) n s u (stored narrow (fork false (held s)))
+    (stored narrow (fork true (held s)))
+unfolding forked
+fork-form n s u =
+    let ts : List (Bool × Refusal) = (unlawful narrow s, Unlawful) ∷ (long narrow (held s), Long) ∷ [] in
+    two-branches (first ts) n s u (fork false (held s)) (fork true (held s))
+    ∙ ap (λ (r : Answer). twoOf r n s u (stored narrow (fork false (held s))) (stored narrow (fork true (held s)))) (first-table ts)
+
+-- no slot is absent
+pub full-form : (ts : List (Bool × Refusal)) (n : ℕ) (s u x y : Record)
+    → record { code = fullCode s; first = s; second = u } ≡ twoOf (first ((unlawful narrow s, Unfit) ∷ (true, Full) ∷ ts)) n s u x y
+unfolding fullCode first
+full-form ts n s u x y = by (unlawful narrow s)
+  where
+    by : (b : Bool)
+        → record { code = cond b (codeOf Unfit) (codeOf Full); first = s; second = u } ≡ twoOf (cond b (Refused Unfit) (Refused Full)) n s u x y
+    by true = refl
+    by false = refl
+
+pub compare-form : (s u : Record)
+    → tableCode (comparedNumber (compared narrow s u)) ≡ comparedNumber (told (first (meetTests s u [])) (compare (held s) (held u)))
+unfolding compared
+compare-form s u =
+    table-compared (first (meeting narrow s u [])) (compare (held s) (held u))
+    ∙ ap (λ (r : Answer). comparedNumber (told r (compare (held s) (held u)))) (first-table (meeting narrow s u []))
+
+-- ---- what is asked before a join, and then of the records that meet
+
+-- a refusal has a number
+answer-done : (r : Answer) → answerCode r 0 ≡ 0 → r ≡ Done
+answer-done Done e = refl
+answer-done (Refused r) e = absurd (omega arith)
+
+-- tests, and then more tests
+first-then : (ts us : List (Bool × Refusal)) → first (ts ++ us) ≡ andThen (first ts) (first us)
+unfolding first
+first-then [] us = refl
+first-then (t ∷ ts) us = by (t .0) (first-then ts us)
+  where
+    by : (b : Bool) → first (ts ++ us) ≡ andThen (first ts) (first us)
+        → cond b (Refused (t .1)) (first (ts ++ us)) ≡ andThen (cond b (Refused (t .1)) (first ts)) (first us)
+    by true h = refl
+    by false h = h
+
+module _ (a b : ℕ) (s u : Record) where
+  abbrev j : Stamp
+  j = join (held s) (held u)
+
+  abbrev asked : Answer
+  asked = first (pairTests a b s u [])
+
+  abbrev met : Answer
+  met = first (meetTests s u ((many narrow j, Many) ∷ []))
+
+  join-then : joinRule a b s u ≡ twoOf (andThen asked met) a s u (stored narrow j) (blank narrow)
+  unfolding joinRule
+  join-then =
+      ap (λ (r : Answer). twoOf r a s u (stored narrow j) (blank narrow))
+      (first-then (pairTests a b s u []) (meetTests s u ((many narrow j, Many) ∷ [])))
+
+  pub join-refused : (n : ℕ) → n ≡ answerCode asked 0 → (n ≡ 0 → ⊥) → record { code = n; first = s; second = u } ≡ joinRule a b s u
+  join-refused n e h = by asked e ∙ sym join-then
+    where
+      by : (r : Answer) → n ≡ answerCode r 0 → record { code = n; first = s; second = u } ≡ twoOf (andThen r met) a s u (stored narrow j) (blank narrow)
+      by Done e = absurd (h e)
+      by (Refused r) e = λ i. record { code = e i; first = s; second = u }
+
+  -- past what is asked of the pair, the answer of `joins::join`
+  pub join-form : (n : ℕ) → n ≡ answerCode asked 0 → n ≡ 0
+      → (let g : Given = joined narrow s u in twoOf (atTable (g .answer)) a s u (g .stamp) (blank narrow)) ≡ joinRule a b s u
+  unfolding joined
+  join-form n e h =
+      let ts : List (Bool × Refusal) = meeting narrow s u ((many narrow j, Many) ∷ []) in
+      two-given (first ts) a s u j (blank narrow)
+      ∙ ap (λ (r : Answer). twoOf r a s u (stored narrow j) (blank narrow)) (first-table ts)
+      ∙ ap (λ (r : Answer). twoOf (andThen r met) a s u (stored narrow j) (blank narrow)) (sym (answer-done asked (sym e ∙ h)))
+      ∙ sym join-then

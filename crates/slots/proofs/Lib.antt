@@ -1,0 +1,4 @@
+pub mod Zeros
+pub mod Forms
+pub mod Few
+pub mod Unique

@@ -1,0 +1,78 @@
+-- `slots::compare_rule` meets its contract: 3, and else what `stamps::compare` answers, as the table says it. Assumes nothing.
+use borrow.Author.Tests.{eq-eqb, ne-eqb}
+use mathlib.Core.Path.{_≡_, sym, ap, _∙_}
+use Rattle.rules.specs.Limits.{narrow}
+use Rattle.rules.specs.Packed.{comparedNumber}
+use Rattle.rules.specs.Refusals.{first}
+use Rattle.rules.specs.Values.{compared}
+use Rattle.rules.specs.declared.Compared.{Compared}
+use Rattle.slots.specs.Rules.{compareRule, tableCode}
+use Rattle.slots.proofs.Forms.{compare-form}
+use borrow.Author.Needs.{needs}
+use Rattle.slots.proofs.compare_rule.Statement.{statement}
+use Rattle.slots.proofs.compare_rule.Tie as tie
+
+slot-code-requires : tie.Need-slot-code-requires
+slot-code-requires c κs = search needs
+
+returns : tie.Need-returns
+unfolding compareRule
+returns c = simp (eq-eqb _ _ (c .before .if1 .taken)) (c .slot-code .ensures)
+
+is-absent-requires : tie.Need-is-absent-requires
+is-absent-requires c κs = search needs
+
+returns-2 : tie.Need-returns-2
+unfolding compareRule first
+returns-2 c = simp (ne-eqb _ _ (c .before .before .if1 .left), sym (c .before .is-absent .ensures) ∙ c .if2 .taken)
+
+is-absent-requires-2 : tie.Need-is-absent-requires-2
+is-absent-requires-2 c κs = search needs
+
+returns-3 : tie.Need-returns-3
+unfolding compareRule first
+returns-3 c =
+    let a = c .before .before in
+    simp (
+      ne-eqb _ _ (a .before .before .if1 .left),
+      sym (a .before .is-absent .ensures) ∙ a .if2 .left,
+      sym (c .before .is-absent2 .ensures) ∙ c .if3 .taken,
+    )
+
+compare-requires : tie.Need-compare-requires
+compare-requires c κs = search needs
+
+compared-code-requires : tie.Need-compared-code-requires
+compared-code-requires c κs = search needs
+
+table-code-requires : tie.Need-table-code-requires
+table-code-requires c κs = search needs
+
+returns-4 : tie.Need-returns-4
+unfolding compareRule first
+returns-4 c =
+    let k = c .before .before in
+    let p = k .before in
+    let a = p .before .before in
+    let g = a .before .before .before .args in
+    let h : k .compare .result ≡ compared narrow (g .s) (g .u) = k .compare .ensures in
+    simp (ne-eqb _ _ (a .before .before .if1 .left), sym (a .before .is-absent .ensures) ∙ a .if2 .left, sym (p .before .is-absent2 .ensures) ∙ p .if3 .left)
+    (c .table-code .ensures
+    ∙ ap tableCode (c .before .compared-code .ensures)
+    ∙ ap (λ (x : Compared). tableCode (comparedNumber x)) h
+    ∙ compare-form (g .s) (g .u))
+
+pub compare-rule-spec : {M : Type 1} → statement M
+compare-rule-spec =
+    tie.close
+    (tie.spec
+    slot-code-requires
+    returns
+    is-absent-requires
+    returns-2
+    is-absent-requires-2
+    returns-3
+    compare-requires
+    compared-code-requires
+    table-code-requires
+    returns-4)

@@ -1,0 +1,17 @@
+-- `slots::found_or` meets its contract. Assumes nothing.
+use native.Mathlib.Omega.{arith}
+use borrow.Author.Tests.{lt-ltb, le-ltb}
+use Rattle.slots.specs.Scans.{foundOr}
+use Rattle.slots.proofs.found_or.Statement.{statement}
+use Rattle.slots.proofs.found_or.Tie as tie
+
+returns : tie.Need-returns
+unfolding foundOr
+returns c = simp (lt-ltb (c .before .args .k) 1000 (omega arith))
+
+returns-2 : tie.Need-returns-2
+unfolding foundOr
+returns-2 c = simp (le-ltb (c .before .args .k) 1000 (omega arith))
+
+pub found-or-spec : {M : Type 1} → statement M
+found-or-spec = tie.close (tie.spec returns returns-2)

@@ -1,0 +1,12 @@
+-- `stamps::blank` meets its contract, by computing. Assumes nothing.
+use mathlib.Core.Path.{refl}
+use Rattle.rules.specs.Stored.{wordsOf, stored, blank}
+use Rattle.stamps.proofs.blank.Statement.{statement}
+use Rattle.stamps.proofs.blank.Tie as tie
+
+returns : tie.Need-returns
+unfolding wordsOf stored blank
+returns c = refl
+
+pub blank-spec : {M : Type 1} → statement M
+blank-spec = tie.close (tie.spec returns)
