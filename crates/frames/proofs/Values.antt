@@ -10,7 +10,7 @@ use base.Fml.{ftrue}
 use prog.Wp.{Heap, WpFn, Tables}
 use ghost.Atoms.{Atoms}
 use sound.WpLaws.{WpFn-mono}
-use types.Kit.{Given, ‵, runs, atRet, Sq, _$_, _∵_, !, qed, by, move, drop, split, join, use0, frame, done, ⋆}
+use types.Kit.{Given, ‵, runs, atRet, Sq, _$_, _∵_, !, qed, drop, use0, frame, done, ⋆}
 use denote.Exit.{yes}
 use denote.RattleType.{Valss, owns}
 use denote.Laws.{Is, valss}
@@ -20,10 +20,10 @@ use denote.Triple.End.{all}
 use denote.Triple.Entry.{onEntry}
 use denote.Triple.Clauses.{closing}
 use denote.Triple.Spec.{Meets}
-use denote.Triple.Walked.{says, Stays, hasOf, walkOf, ends-at, walked, walk-meets}
-use Rattle.frames.proofs.Frame.{Blocks, envOf, deaths, entry, Fits, begins}
-use Rattle.frames.proofs.Rows.{Plainly, slots, Ins, spelled, told, Good, words, valued, giving}
-use Rattle.frames.proofs.Lent.{of, params, dropped}
+use denote.Triple.Walked.{says, Stays, hasOf, Ending, walkOf, ends-at, walked, walk-meets}
+use Rattle.frames.proofs.Frame.{Blocks, envOf, deaths, entry, Fit, Fits, begins}
+use Rattle.frames.proofs.Rows.{Plainly, slots, Ins, spelled, told, Good, words, valued, giving, typed}
+use Rattle.frames.proofs.Lent.{of, params, dropped, lastly, fitting, had, going}
 
 module _ (Ps : List Plainly) (Q : Plainly) {M : Type 1} (𝓤 : URA M) (H : Heap 𝓤) (A : Atoms 𝓤) (f : Ins 0 tt Ps → Q .row .Denot) (W : Given 𝓤 H A) where
   abbrev stayed : Stays (valued Ps Q .signature .params) (valued Ps Q .kept)
@@ -40,8 +40,18 @@ module _ (Ps : List Plainly) (Q : Plainly) {M : Type 1} (𝓤 : URA M) (H : Heap
     Post = walkOf 𝓤 H A (valued Ps Q) stayed (giving 𝓤 H A Ps Q f) .post Bound
 
     closed : (r : Q .row .Denot) → r ≡ f a → Is (Q .row) r (Q .val r ∷ []) → ent 𝓤 (⋆ 𝓤 H A []) (Post (Q .val r))
-    closed r said is = qed W [] ∵ by ! (via 𝓤 _ (qed W [] ∵ says ! said $ nothing ! $ frame ! $ ?)
-        (ends-at 𝓤 H A (valued Ps Q) stayed (giving 𝓤 H A Ps Q f) W Bound (Q .val r) r (lastly 0 tt Ps a) (fitting 0 tt Ps a)))
+    closed r said is = via 𝓤 _ ending
+        (ends-at 𝓤 H A (valued Ps Q) stayed (giving 𝓤 H A Ps Q f) W Bound (Q .val r) r (lastly 0 tt Ps a) (fitting 0 tt Ps a))
+      where
+        ending : ent 𝓤 (⋆ 𝓤 H A []) (Ending 𝓤 H A (valued Ps Q) stayed (giving 𝓤 H A Ps Q f) Bound (Q .val r) r (lastly 0 tt Ps a))
+        ending = qed W [] ∵ says ! said $ nothing ! $ frame ! $
+            use0 W (‵ (hasOf tt (slots {n = 0} Ps) (all yes (slots {n = 0} Ps)) (dropped 0 Ps) a (lastly 0 tt Ps a) vss)) (had 0 tt 𝓤 H A Ps a vss) $ frame ! $
+            owned ! (Q .row) (Is (Q .row)) (Q .makes 𝓤 H A W) r (Q .val r ∷ []) is $ done !
+
+  fit-all : (Ps : List Plainly) (a : Ins 0 tt Ps) → Good 0 tt Ps a → (rest : List Local) (bs : Blocks (params Ps ++ rest))
+      → Fit W (envOf W (params Ps ++ rest) bs) (words 0 tt Ps a)
+  fit-all [] a is rest bs = tt
+  fit-all (P ∷ Ps) a is rest bs = (typed P W (a .0) (P .val (a .0)) (is .0), fit-all Ps (a .1) (is .1) rest (bs .1))
 
   module _ (𝓣 : Tables 𝓤 H) (g : Fn) where
     abbrev pub Value : Type 2
@@ -62,5 +72,5 @@ module _ (Ps : List Plainly) (Q : Plainly) {M : Type 1} (𝓤 : URA M) (H : Heap
         run a good =
             qed W (‵ ftrue ∷ ‵ (owns (typesAt (slots {n = 0} Ps) tt) a (vss a)) ∷ []) ∵ drop ! $ drop ! $
             begins ! (𝓣 .C) (𝓣 .Λ) g (words 0 tt Ps a) (Post a)
-            (subst (λ (ls : List Local). (bs : Blocks ls) → Fits W (envOf W ls bs) (words 0 tt Ps a)) (sym same) (λ bs. fit-all W tt Ps a good rest (bs .1)))
+            (subst (λ (ls : List Local). (bs : Blocks ls) → Fits W (envOf W ls bs) (words 0 tt Ps a)) (sym same) (λ bs. fit-all Ps a good rest (bs .1)))
             (λ bs. walk a good (Post a) (closed a) bs)

@@ -54,13 +54,13 @@ pub fn feed(trace: Trace, piece: &[u8], commands: &mut [u64], out: &mut [u8]) ->
     let before = trace.table;
     let g = lines::gather(held, piece, commands);
     let end = 3 * g.count;
-    let table = traces::run(&mut commands[..end], before);
+    let after = traces::run(&mut commands[..end], before);
     let p = lines::print(&commands[..end], out);
     let line = g.line;
     let len = p.len;
     let next = Trace {
         line,
-        table,
+        table: after,
         budget: budget - n as u64,
     };
     Fed {

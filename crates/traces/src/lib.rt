@@ -13,7 +13,6 @@ use lines::JOIN;
 use lines::SPARE;
 use lines::UPDATE;
 use rules::Record;
-use rules::Words;
 
 // What a letter that is none is answered: refusal 11.
 const UNREAD: u64 = 1011;
@@ -48,19 +47,15 @@ pub fn run(commands: &mut [u64], table: [Record; 32]) -> [Record; 32]
 pub fn fresh_in() -> [Record; 32]
     ensures { λ r. ⌜ r ≡ freshTable narrow records ⌝ }
 {
-    let w = [0; 16];
-    let none = Words { count: 0, words: w };
-    let one = Words { count: 1, words: w };
-    let absent = Record {
-        update: none,
-        id: none,
-    };
-    let first = Record {
-        update: one,
-        id: one,
-    };
-    let mut t = [absent; 32];
-    t[0] = first;
+    made_fresh([stamps::blank(); 32])
+}
+
+// A table of 32 by value, made fresh.
+fn made_fresh(table: [Record; 32]) -> [Record; 32]
+    ensures { λ t. ⌜ t ≡ freshTable narrow records ⌝ }
+{
+    let mut t = table;
+    tables::fresh(&mut t);
     t
 }
 

@@ -3,7 +3,7 @@
 use Rattle.frames.proofs.Walk.{_≡_, refl, sym, ap, subst, _∙_, List, [], _∷_, _++_, none, some, WellFounded, InvImage·accessible, Nat·lt-wfRel, ℕ, _<_, _≤_}
 use Rattle.frames.proofs.Walk.{_+_, _-_, _^_, ltb, lit<, arith, ltb-true, ltb-false, length, w64, Val, vint}
 use Rattle.frames.proofs.Walk.{URA, fullShare, Heap, Tables, Atoms, SProp, Fml, fmOf, givenOf, tables, tablesOf, Given, ‵, Sq, runs, atRet, rewrite, done, _$_}
-use Rattle.frames.proofs.Walk.{ !, by, row, Room, look, and-then, no-more, lit, of-opd, bin, returns, addr, from, stop, agg, Triple, entered, cited, Blocks, envOf}
+use Rattle.frames.proofs.Walk.{ !, by, row, Room, look, and-then, no-more, lit, of-opd, bin, returns, Triple, entered, cited, Blocks, envOf}
 use Rattle.frames.proofs.Walk.{deaths, frame-of, var, piece, sets, leaves, relends, number, Ins, Says, Closes, Walk, lends, Tells, Answers, asks, Changes, hands, var₂}
 use Rattle.frames.proofs.Walk.{Loop, Turn, whiles, tests, sets-last, turns-to, forgets}
 use Rattle.frames.proofs.Arrays.{unrolls, rolls, var₁, piece₁}
@@ -12,6 +12,8 @@ use Prim.Native.Nat.{_*_, _/_}
 use base.Fml.{fat}
 use prog.Wp.{spotOf}
 use types.Kit.{put}
+use types.Part.{agg}
+use types.Run.{addr, from, stop}
 use contract.Lifetimes.{Lfts}
 use denote.Struct.Laws as LL
 use denote.Slice.{sliceVal}
