@@ -6,4 +6,6 @@ pub mod Lent
 pub mod Claims
 pub mod Turns
 pub mod Hands
+pub mod Arrays
+pub mod Values
 pub mod Walk

@@ -1,10 +1,10 @@
--- `traces::call_at` meets its contract: the test is that of the definition, and below it the three numbers are in the buffer. Assumes nothing.
+-- `traces::command_at` meets its contract: the test is that of the definition, and below it the three numbers are in the buffer. Assumes nothing.
 use mathlib.Core.Path.{refl}
 use borrow.Author.Tests.{lt-ltb, le-ltb}
-use Rattle.traces.specs.Inner.{callAt}
+use Rattle.traces.specs.Inner.{commandAt}
 use borrow.Author.Needs.{needs}
-use Rattle.traces.proofs.call_at.Statement.{statement}
-use Rattle.traces.proofs.call_at.Tie as tie
+use Rattle.traces.proofs.command_at.Statement.{statement}
+use Rattle.traces.proofs.command_at.Tie as tie
 
 mul-i : tie.Need-mul-i
 mul-i c = search needs
@@ -34,15 +34,15 @@ shared-slice-read-t18 : tie.Need-shared-slice-read-t18
 shared-slice-read-t18 c = search needs
 
 returns : tie.Need-returns
-unfolding callAt
+unfolding commandAt
 returns c = simp (lt-ltb _ _ (c .before .before .before .if1 .taken)) refl
 
 returns-2 : tie.Need-returns-2
-unfolding callAt
+unfolding commandAt
 returns-2 c = simp (le-ltb _ _ (c .if1 .left))
 
-pub call-at-spec : {M : Type 1} → statement M
-call-at-spec =
+pub command-at-spec : {M : Type 1} → statement M
+command-at-spec =
     tie.close
     (tie.spec
     mul-i
