@@ -15,6 +15,7 @@ ghost use Rattle.calls.specs.Keep.{keptIs};
 ghost use Rattle.rules.specs.Room.{roomNumber};
 use lengths::longest;
 use names::STRINGS;
+use names::UNION;
 use names::grow;
 use reading::read_in;
 use rules::Answer;
@@ -25,9 +26,6 @@ use rules::Written;
 use walks::is_long;
 use writing::write_both;
 use writing::write_from;
-
-// As many strings as two names have.
-const TWO_NAMES: usize = 32;
 
 // The stamp after an edit, into out.
 pub fn update(stamp: &[u8], out: &mut [u8]) -> Written
@@ -158,8 +156,8 @@ fn write_joined(u: &[u64], i: &[u64], v: &[u64], j: &[u64], out: &mut [u8]) -> W
     let Answer::Done = a else {
         return refused(a);
     };
-    let mut update = [0u64; TWO_NAMES];
-    let mut id = [0u64; TWO_NAMES];
+    let mut update = [0u64; UNION];
+    let mut id = [0u64; UNION];
     let k = unions::join(u, i, v, j, &mut update, &mut id);
     let m = k.update;
     let n = k.id;
