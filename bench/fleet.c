@@ -15,7 +15,8 @@
  *        frugal  it is joined where that leaves no more strings than the newer has, else given up
  *        late    it is joined wherever that is not refused, else given up
  * EDITS  few   one site, drawn, has an edit before every tenth meeting; many  before each meeting; one  the first site, before each
- * GATHER 0, or after how many meetings all copies are joined and forked anew */
+ * GATHER 0, or after how many meetings all copies are joined and forked anew; -1: as soon as one has half of the strings or three
+ *        quarters of the digits that it may have, and then how often is printed behind the refusal */
 #include "../tools/orders.h"
 #include <stdio.h>
 #include <stdlib.h>
@@ -35,7 +36,7 @@ static uint64_t next(void) {
 static int below(int n) { return (int)(next() % (uint64_t)n); }
 
 static copy site[SITES];
-static int sites;
+static int sites, most_digits, most_strings, gatherings;
 
 static int refusal(uint64_t r) { return r < EBBMUSLIN_REFUSED ? 0 : (int)(r - EBBMUSLIN_REFUSED); }
 
@@ -182,7 +183,7 @@ static int go_on(const plan *p, int t, int more) {
 }
 
 /* Digits: how often a copy can be forked. Strings: how many of every other of many copies can be joined. */
-static void limits(void) {
+static void find_limits(void) {
     copy x = {.len = EBBMUSLIN_FIRST_LEN}, y;
     int digits = 0, strings = 1;
     while (forked(&x, &x, &y) == 0) digits++;
@@ -191,11 +192,20 @@ static void limits(void) {
     for (int n = 1; n < 256; n *= 2)
         for (int k = n; k-- > 0;) must(forked(&all[k], &all[2 * k], &all[2 * k + 1]) == 0, "a fresh set was refused");
     while (2 * strings < 256 && copies_joined(&all[0], &all[2 * strings], &x) == 0) all[0] = x, strings++;
-    printf("limits %d %d\n", digits, strings);
+    most_digits = digits;
+    most_strings = strings;
+}
+
+static int is_due(const plan *p, int t) {
+    int due = p->gather > 0 && t % p->gather == 0;
+    for (int k = 0; p->gather < 0 && k < sites; k++)
+        due |= 2 * copy_strings(&site[k]) >= most_strings || 4 * copy_digits(&site[k]) >= 3 * most_digits;
+    return due;
 }
 
 static int run(const plan *p, int shown, int *number) {
     state = p->seed;
+    gatherings = 0;
     memset(site, 0, sizeof site);
     copy first = {.len = EBBMUSLIN_FIRST_LEN};
     must(spread(&first) == 0, "a fresh set was refused");
@@ -205,7 +215,7 @@ static int run(const plan *p, int shown, int *number) {
         edits(p, t);
         who(p, t - 1, &a, &b);
         *number = meet(&site[a], &site[b], way_of(p));
-        if (*number == 0 && p->gather && t % p->gather == 0) *number = gather();
+        if (*number == 0 && is_due(p, t)) *number = gather(), gatherings++;
         must(*number == 0 || *number == 6 || *number == 7, "another refusal than 6 and 7");
         if (*number) return t;
         if (shown) show(t);
@@ -225,7 +235,7 @@ static int pairs_left(int way) {
 
 static void limits_or_nothing(const char *line) {
     must(strcmp(line, "limits\n") == 0, "a line that is none");
-    limits();
+    printf("limits %d %d\n", most_digits, most_strings);
 }
 
 /* What is left after the first refusal, at meeting `first`. */
@@ -243,15 +253,17 @@ static void afterwards(const plan *p, int first) {
 int main(void) {
     plan p;
     char line[128];
+    find_limits();
     while (fgets(line, sizeof line, stdin)) {
         int marked = line[0] == '+' || line[0] == '?', number = 0;
         if (sscanf(line + marked, "%d %15s %15s %15s %d %d %llu", &sites, p.links, p.way, p.edits, &p.gather, &p.meetings, &p.seed) != 7) {
             limits_or_nothing(line);
             continue;
         }
-        must(sites >= 2 && sites <= SITES && p.gather >= 0, "a line that is none");
+        must(sites >= 2 && sites <= SITES && p.gather >= -1, "a line that is none");
         int first = run(&p, line[0] == '+', &number);
         printf("%d %s %s %s %d %d %llu %d %d", sites, p.links, p.way, p.edits, p.gather, p.meetings, p.seed, first, number);
+        if (p.gather < 0) printf(" %d", gatherings);
         if (line[0] == '?' && first) afterwards(&p, first);
         printf("\n");
     }

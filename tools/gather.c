@@ -68,12 +68,13 @@ static void not_all(int n, const order *o) {
 int main(void) {
     order o;
     copy whole;
-    int n = entries(fread(bundle, 1, sizeof bundle, stdin));
-    if (n < 0) return 1;
+    size_t len = fread(bundle, 1, sizeof bundle, stdin);
     if (ferror(stdin)) {
         fprintf(stderr, "gather: a read failed\n");
         return 1;
     }
+    int n = entries(len);
+    if (n < 0) return 1;
     find_order(entry, n, &o);
     int r = carry_out(entry, n, &o, &whole);
     if (r) {

@@ -137,33 +137,35 @@ static void meet(const copy *slot, int a, int b, met *m) {
 }
 
 /* The pair to join next: one that leaves the fewest strings; among the best in the first try the first one, later any, at times any pair. */
-static int choose(const met (*pair)[COPIES_MOST], const int *live, int n, int try, int *x, int *y) {
+static step choose(const met (*pair)[COPIES_MOST], const int *live, int n, int try) {
     int best = REFUSED, seen = 0, loose = try > 0 && draw(4) == 0;
+    step chosen = {-1, -1};
     for (int a = 0; a < n; a++)
         for (int b = a + 1; b < n; b++) {
             if (!live[a] || !live[b] || pair[a][b].gain == REFUSED) continue;
             int gain = loose ? 0 : pair[a][b].gain;
             if (gain < best) best = gain, seen = 0;
-            if (gain == best && (seen++ == 0 || (try > 0 && draw((uint64_t)seen) == 0))) *x = a, *y = b;
+            if (gain == best && (seen++ == 0 || (try > 0 && draw((uint64_t)seen) == 0))) chosen = (step){a, b};
         }
-    return best != REFUSED;
+    return chosen;
 }
 
 static void one_try(const copy *copies, int n, int try, met (*pair)[COPIES_MOST], order *o) {
     copy slot[COPIES_MOST];
     order group[COPIES_MOST];
-    int live[COPIES_MOST], x = 0, y = 0, best = 0;
+    int live[COPIES_MOST], best = 0;
     for (int k = 0; k < n; k++) slot[k] = copies[k], live[k] = 1, group[k] = (order){.set = 1ull << k, .size = 1};
     for (int a = 0; a < n; a++)
         for (int b = a + 1; b < n; b++) meet(slot, a, b, &pair[a][b]);
-    while (choose((const met(*)[COPIES_MOST])pair, live, n, try, &x, &y)) {
+    for (step s; (s = choose((const met(*)[COPIES_MOST])pair, live, n, try)).into >= 0;) {
+        int x = s.into, y = s.from;
         slot[x] = pair[x][y].is;
         live[y] = 0;
         group[x].set |= group[y].set;
         group[x].size += group[y].size;
         memcpy(group[x].step + group[x].steps, group[y].step, (size_t)group[y].steps * sizeof(step));
         group[x].steps += group[y].steps;
-        group[x].step[group[x].steps++] = (step){x, y};
+        group[x].step[group[x].steps++] = s;
         for (int k = 0; k < n; k++)
             if (live[k] && k != x) meet(slot, x < k ? x : k, x < k ? k : x, x < k ? &pair[x][k] : &pair[k][x]);
     }

@@ -87,9 +87,9 @@ static void finish(folder *from, folder *to, const change *c) {
     if (found < 0) fail(to->name, "%s cannot be read: %s", STAGED, strerror(errno));
     if (found && !is_same(staged, c->to.of)) fail(to->name, "%s is not what a command that was cut off put there", STAGED);
     if (found || c->leaves) guard(to, c);
-    char *stamp = stamp_file(c->file);
-    drop(to, stamp);
-    free(stamp);
+    char *name = stamp_file(c->file);
+    drop(to, name);
+    free(name);
     if (found) put_in_place(to, c->file, c->had);
     put_record(from, c->file, &c->from);
     if (c->leaves) drop(to, c->file);

@@ -47,7 +47,14 @@ char *text(const char *format, ...) {
     return s;
 }
 
-/* How many bytes a printable character at s has; 0 where there is none: a control character, or no UTF-8. */
+/* A mark that is not seen and hides, breaks or turns the text around it: U+200B to 200F, 2028 to 202E, 2060 to 206F, FEFF. */
+static bool is_hidden(const unsigned char *s) {
+    if (s[0] == 0xEF) return s[1] == 0xBB && s[2] == 0xBF;
+    if (s[0] != 0xE2) return false;
+    return s[1] == 0x80 ? (s[2] >= 0x8B && s[2] <= 0x8F) || (s[2] >= 0xA8 && s[2] <= 0xAE) : s[1] == 0x81 && s[2] >= 0xA0 && s[2] <= 0xAF;
+}
+
+/* How many bytes a printable character at s has; 0 where there is none: a control character, a hidden mark, or no UTF-8. */
 static size_t printable(const unsigned char *s) {
     if (s[0] < 0x80) return s[0] >= 0x20 && s[0] != 0x7F && s[0] != '\\';
     size_t n = s[0] >= 0xF0 && s[0] < 0xF5 ? 4 : s[0] >= 0xE0 && s[0] < 0xF0 ? 3 : s[0] >= 0xC2 && s[0] < 0xE0 ? 2 : 0;
@@ -55,7 +62,7 @@ static size_t printable(const unsigned char *s) {
         if ((s[k] & 0xC0) != 0x80) return 0;
     if ((s[0] == 0xC2 && s[1] < 0xA0) || (s[0] == 0xE0 && s[1] < 0xA0) || (s[0] == 0xED && s[1] > 0x9F)) return 0;
     if ((s[0] == 0xF0 && s[1] < 0x90) || (s[0] == 0xF4 && s[1] > 0x8F)) return 0;
-    return n;
+    return n == 3 && is_hidden(s) ? 0 : n;
 }
 
 /* A name as it can be printed on one line: bytes that cannot are written \xNN, as bash reads them in $'..'. */
@@ -98,7 +105,12 @@ static folder *opened(const char *name, bool is_known) {
 folder *enter(const char *name, bool is_known) {
     folder *f = opened(name, is_known);
     for (folder *g = entered; g; g = g->next)
-        if (strcmp(g->path, f->path) == 0) return close(f->fd), g;
+        if (strcmp(g->path, f->path) == 0) {
+            close(f->fd);
+            free(f->path);
+            free(f);
+            return g;
+        }
     step("lock");
     int lock = openat(f->fd, LOCK, O_RDWR | O_CLOEXEC | O_NOFOLLOW | (is_known ? 0 : O_CREAT), 0666);
     if (lock < 0 && is_known && errno == ENOENT)

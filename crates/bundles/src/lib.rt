@@ -10,15 +10,14 @@ use layout::BYTES;
 use packed::read;
 use rules::Answer;
 use rules::Given;
-use rules::Record;
 use rules::Refusal;
-use rules::Words;
+use stamps::blank;
 
 // A bundle has at most so many bytes.
-pub const ROOM: usize = 65536;
+const MOST_BYTES: usize = 65536;
 
 // A packed stamp has at least so many bytes.
-const LEAST: usize = 3;
+const LEAST_BYTES: usize = 3;
 
 // Where an entry's bytes lie.
 enum Place {
@@ -42,7 +41,7 @@ pub fn entry(b: &[u8], k: usize) -> Given
 fn find(b: &[u8], k: usize) -> Place
     ensures { λ p. ⌜ (placed (now (b .entry)) p ≡ Rattle.rules.specs.Bundles.entry narrow k (now (b .entry))) × Inside (now (b .entry)) p ⌝ }
 {
-    if ROOM < b.len() {
+    if MOST_BYTES < b.len() {
         return Place::Refused(Refusal::Malformed);
     }
     let mut at = 0;
@@ -68,7 +67,7 @@ fn front(b: &[u8], at: usize) -> Place
         return Place::Refused(Refusal::Ended);
     }
     let n = b[at] as usize;
-    if n < LEAST {
+    if n < LEAST_BYTES {
         return Place::Refused(Refusal::Malformed);
     }
     if BYTES < n {
@@ -86,14 +85,8 @@ fn front(b: &[u8], at: usize) -> Place
 fn refused(why: Refusal) -> Given
     ensures { λ g. ⌜ g ≡ record { answer = Refused why; stamp = blank narrow } ⌝ }
 {
-    let words = [0; 16];
-    let none = Words { count: 0, words };
-    let stamp = Record {
-        update: none,
-        id: none,
-    };
     Given {
         answer: Answer::Refused(why),
-        stamp,
+        stamp: blank(),
     }
 }

@@ -3,25 +3,20 @@
 mod lengths;
 
 ghost use mathlib.Core.Path.{_≡_};
-ghost use mathlib.Core.Bool.{true, false};
 ghost use mathlib.Core.List.{[]};
-ghost use lib.ListN.{take, replicate};
 ghost use Rattle.rules.specs.Limits.{narrow};
-ghost use Rattle.rules.specs.Stamps.{append};
-ghost use Rattle.rules.specs.Stored.{isStored, strsIn, wordsOf};
-ghost use Rattle.rules.specs.Refusals.{first};
-ghost use Rattle.rules.specs.Values.{compared, meeting};
 ghost use Rattle.rules.specs.Packed.{wrote, comparedAfter, packedUpdate, packedFork, packedJoin, packedCompare, sideOf};
 ghost use Rattle.rules.specs.declared.Verdict.the-variants.{Equal};
 ghost use Rattle.rules.specs.declared.Compared.the-variants.{Is};
-ghost use Rattle.stamps.specs.Lent.{name, stamp, Named};
-ghost use Rattle.walks.specs.Walks.{isLong};
+ghost use Rattle.layout.specs.Words.{stampOf};
 ghost use Rattle.writing.specs.Fits.{writtenNames};
-ghost use Rattle.calls.specs.Joins.{wroteJoin};
+ghost use Rattle.calls.specs.Joins.{Lent, wroteJoin};
 ghost use Rattle.calls.specs.Keep.{keptIs};
 ghost use Rattle.rules.specs.Room.{roomNumber};
 use lengths::longest;
 use names::STRINGS;
+use names::UNION;
+use names::grow;
 use reading::read_in;
 use rules::Answer;
 use rules::Compared;
@@ -31,9 +26,6 @@ use rules::Written;
 use walks::is_long;
 use writing::write_both;
 use writing::write_from;
-
-// A buffer has room for the strings of two names.
-const ROOM: usize = 32;
 
 // The stamp after an edit, into out.
 pub fn update(stamp: &[u8], out: &mut [u8]) -> Written
@@ -68,7 +60,7 @@ pub fn fork(stamp: &[u8], zero: &mut [u8], one: &mut [u8]) -> Written
     }
     let mut x = [0; 16];
     let mut y = [0; 16];
-    grow(&i, n, &mut x, &mut y);
+    grow(&i[..n], &mut x, &mut y);
     write_both(&u[..m], &x[..n], &y[..n], zero, one)
 }
 
@@ -90,11 +82,11 @@ pub fn join(first: &[u8], second: &[u8], out: &mut [u8]) -> Written
     let Answer::Done = b else {
         return refused(b);
     };
-    let m = met(&u, c.update, &i, c.id, &v, d.update, &j, d.id);
-    let Answer::Done = m else {
-        return refused(m);
-    };
-    write_joined(&u, c.update, &i, c.id, &v, d.update, &j, d.id, out)
+    let k = c.update;
+    let l = c.id;
+    let m = d.update;
+    let n = d.id;
+    write_joined(&u[..k], &i[..l], &v[..m], &j[..n], out)
 }
 
 // How the first stands to the second.
@@ -115,7 +107,11 @@ pub fn compare(first: &[u8], second: &[u8]) -> Compared
     let Answer::Done = b else {
         return uncompared(b);
     };
-    told(&u, p.update, &i, p.id, &v, q.update, &j, q.id)
+    let k = p.update;
+    let l = p.id;
+    let m = q.update;
+    let n = q.id;
+    walks::compare(&u[..k], &i[..l], &v[..m], &j[..n])
 }
 
 // The one to keep, itself: the first if equal or newer, the second if the first is obsolete; an empty part of the first on conflict or refusal.
@@ -150,75 +146,19 @@ pub fn room(stamp: &[u8]) -> u64
     strings as u64 * 100 + digits
 }
 
-// The id of n words with 0 appended to each string, and with 1: in a word the length grows by one, and the digit comes behind the others.
-fn grow(id: &[u64; 16], n: usize, zero: &mut [u64; 16], one: &mut [u64; 16])
-    requires { ⌜ Named n (now id) × (isLong (take n (now id)) ≡ false) × (now zero ≡ replicate 16 0) × (now one ≡ replicate 16 0) ⌝ }
-    ensures { λ _. ⌜ (name n (now (zero .exit)) ≡ wordsOf narrow (append false (strsIn (name n (now (id .entry))))))
-        × (name n (now (one .exit)) ≡ wordsOf narrow (append true (strsIn (name n (now (id .entry)))))) ⌝ }
+// The join of two lawful stamps, each in the words of its names: 8, 9, 7 and 10 are left to refuse.
+fn write_joined(u: &[u64], i: &[u64], v: &[u64], j: &[u64], out: &mut [u8]) -> Written
+    requires { ⌜ Lent (now u) (now i) × Lent (now v) (now j) ⌝ }
+    ensures { λ w. ⌜ (w ≡ wroteJoin (stampOf (now (u .entry)) (now (i .entry))) (stampOf (now (v .entry)) (now (j .entry))) (now (out .entry)) .answer)
+        × (now (out .exit) ≡ wroteJoin (stampOf (now (u .entry)) (now (i .entry))) (stampOf (now (v .entry)) (now (j .entry))) (now (out .entry)) .out) ⌝ }
 {
-    let mut k = 0;
-    while k < n {
-        let s = id[k];
-        let t = s + 1;
-        zero[k] = t;
-        one[k] = t + (1 << (63 - s % 64));
-        k += 1;
-    }
-}
-
-// What two lawful stamps that meet are refused for.
-fn met<'a>(
-    u: &'a [u64],
-    uc: usize,
-    i: &'a [u64],
-    ic: usize,
-    v: &'a [u64],
-    vc: usize,
-    j: &'a [u64],
-    jc: usize,
-) -> Answer
-    requires { ⌜ (isStored narrow (stamp uc (now u) ic (now i)) ≡ true) × (isStored narrow (stamp vc (now v) jc (now j)) ≡ true) ⌝ }
-    ensures { λ r. ⌜ r ≡ first (meeting narrow (stamp uc (now (u .entry)) ic (now (i .entry))) (stamp vc (now (v .entry)) jc (now (j .entry))) []) ⌝ }
-{
-    walks::meet(&u[..uc], &i[..ic], &v[..vc], &j[..jc])
-}
-
-// How a lawful stamp stands to another.
-fn told<'a>(
-    u: &'a [u64],
-    uc: usize,
-    i: &'a [u64],
-    ic: usize,
-    v: &'a [u64],
-    vc: usize,
-    j: &'a [u64],
-    jc: usize,
-) -> Compared
-    requires { ⌜ (isStored narrow (stamp uc (now u) ic (now i)) ≡ true) × (isStored narrow (stamp vc (now v) jc (now j)) ≡ true) ⌝ }
-    ensures { λ c. ⌜ c ≡ compared narrow (stamp uc (now (u .entry)) ic (now (i .entry))) (stamp vc (now (v .entry)) jc (now (j .entry))) ⌝ }
-{
-    walks::compare(&u[..uc], &i[..ic], &v[..vc], &j[..jc])
-}
-
-// The join of two lawful stamps, where the reduced id has no more strings than a name has.
-fn write_joined<'a>(
-    u: &'a [u64],
-    uc: usize,
-    i: &'a [u64],
-    ic: usize,
-    v: &'a [u64],
-    vc: usize,
-    j: &'a [u64],
-    jc: usize,
-    out: &mut [u8],
-) -> Written
-    requires { ⌜ (isStored narrow (stamp uc (now u) ic (now i)) ≡ true) × (isStored narrow (stamp vc (now v) jc (now j)) ≡ true) ⌝ }
-    ensures { λ w. ⌜ (w ≡ wroteJoin (stamp uc (now (u .entry)) ic (now (i .entry))) (stamp vc (now (v .entry)) jc (now (j .entry))) (now (out .entry)) .answer)
-        × (now (out .exit) ≡ wroteJoin (stamp uc (now (u .entry)) ic (now (i .entry))) (stamp vc (now (v .entry)) jc (now (j .entry))) (now (out .entry)) .out) ⌝ }
-{
-    let mut update = [0u64; ROOM];
-    let mut id = [0u64; ROOM];
-    let k = unions::join(&u[..uc], &i[..ic], &v[..vc], &j[..jc], &mut update, &mut id);
+    let a = walks::meet(u, i, v, j);
+    let Answer::Done = a else {
+        return refused(a);
+    };
+    let mut update = [0u64; UNION];
+    let mut id = [0u64; UNION];
+    let k = unions::join(u, i, v, j, &mut update, &mut id);
     let m = k.update;
     let n = k.id;
     if STRINGS < n {

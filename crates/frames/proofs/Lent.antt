@@ -62,21 +62,21 @@ abbrev last : (P : Plainly) (x : P .row .Denot) → Last (P .row .exit yes) x
 last P x = subst (λ (e : Exit (P .row .Denot)). Last e x) (sym (P .still)) tt
 
 module _ (n : ℕ) (κs : Lfts n) where
-  abbrev lastly : (Ps : List Plainly) (a : Ins n κs Ps) → Fins κs (slots Ps) (all yes (slots Ps)) a
+  abbrev pub lastly : (Ps : List Plainly) (a : Ins n κs Ps) → Fins κs (slots Ps) (all yes (slots Ps)) a
   lastly [] a = tt
   lastly (P ∷ Ps) a = (last P (a .0), lastly Ps (a .1))
 
-  fitting : (Ps : List Plainly) (a : Ins n κs Ps) → fitsOf κs (slots Ps) (all yes (slots Ps)) (dropped n Ps) a (lastly Ps a)
+  pub fitting : (Ps : List Plainly) (a : Ins n κs Ps) → fitsOf κs (slots Ps) (all yes (slots Ps)) (dropped n Ps) a (lastly Ps a)
   fitting [] a = tt
   fitting (P ∷ Ps) a = (tt, fitting Ps (a .1))
 
   module _ {M : Type 1} (𝓤 : URA M) (H : Heap 𝓤) (A : Atoms 𝓤) where
-    had : (Ps : List Plainly) (a : Ins n κs Ps) (vss : Valss (typesAt (slots Ps) κs)) → ent 𝓤 (emp 𝓤)
+    pub had : (Ps : List Plainly) (a : Ins n κs Ps) (vss : Valss (typesAt (slots Ps) κs)) → ent 𝓤 (emp 𝓤)
         (sem 𝓤 H A (hasOf κs (slots Ps) (all yes (slots Ps)) (dropped n Ps) a (lastly Ps a) vss))
     had [] a vss = id⊢ 𝓤 (emp 𝓤)
     had (P ∷ Ps) a vss = via 𝓤 (sep 𝓤 (emp 𝓤) (emp 𝓤)) (emp∗ 𝓤 (emp 𝓤)) (monoR 𝓤 (emp 𝓤) (had Ps (a .1) (vss .1)))
 
-going : {M : Type 1} (𝓤 : URA M) (H : Heap 𝓤) (A : Atoms 𝓤) (W : Given 𝓤 H A) (n : ℕ) (Ps : List Plainly) → AllGo 𝓤 H A W n (slots Ps) (all yes (slots Ps))
+pub going : {M : Type 1} (𝓤 : URA M) (H : Heap 𝓤) (A : Atoms 𝓤) (W : Given 𝓤 H A) (n : ℕ) (Ps : List Plainly) → AllGo 𝓤 H A W n (slots Ps) (all yes (slots Ps))
     (dropped n Ps)
 going 𝓤 H A W n [] = tt
 going 𝓤 H A W n (P ∷ Ps) = (

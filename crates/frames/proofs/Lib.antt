@@ -3,6 +3,9 @@ pub mod Frame
 pub mod Rows
 pub mod Elems
 pub mod Lent
+pub mod Claims
 pub mod Turns
 pub mod Hands
+pub mod Arrays
+pub mod Values
 pub mod Walk

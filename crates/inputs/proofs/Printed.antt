@@ -8,9 +8,8 @@ use lib.Dec.{eqb}
 use Rattle.rules.specs.Limits.{narrow, records}
 use Rattle.rules.specs.Tables.{freshTable}
 use Rattle.rules.specs.Traces.{Text, traced}
-use Rattle.lines.specs.declared.Line.{Line}
 use Rattle.lines.specs.declared.Command.{Command}
-use Rattle.lines.specs.Commands.{parsed, begun, ended, left, lastOf, allGathered, whole}
+use Rattle.lines.specs.Commands.{parsed, begun, ended, left, lastLine, allGathered, whole}
 use Rattle.lines.specs.Answers.{answersText}
 use Rattle.lines.specs.Runs.{answered, tableAfter}
 use Rattle.lines.proofs.Runs.{prints-traced, answered-append, answers-append}
@@ -18,8 +17,8 @@ use Rattle.inputs.specs.declared.Trace.{Trace}
 use Rattle.inputs.specs.Pieces.{started, pieceText, after, endText, textOf}
 
 -- the last line, where it is something
-end-last : (s : Trace) → endText s ≡ answersText (answered narrow (s .table) (lastOf (s .line)))
-unfolding endText lastOf pieceText ended answersText answered
+end-last : (s : Trace) → endText s ≡ answersText (answered narrow (s .table) (lastLine (s .line)))
+unfolding endText lastLine pieceText ended answersText answered
 end-last s = by (eqb (s .line .len) 0)
   where
     by : (b : Bool) → cond b [] (answersText (answered narrow (s .table) (parsed (s .line) ∷ [])))

@@ -11,37 +11,37 @@ use lib.Dec.{eqb, ltb}
 use lib.ListN.{length, take, set, length-append, length-set}
 use lib.Seq.{take-all, take-suc-set, take-append-le}
 use Rattle.rules.specs.Traces.{Text, readLine, readLines, linesOf, dropEmptyLast, splitAt, ontoFirst}
-use Rattle.lines.specs.declared.Line.{Line}
+use Rattle.lines.specs.declared.Unfinished.{Unfinished}
 use Rattle.lines.specs.declared.Command.{Command}
-use Rattle.lines.specs.Commands.{commandOf, commandsOf, textOf, parsed, begun, pushed, ended, left, lastOf, allGathered, whole}
+use Rattle.lines.specs.Commands.{commandOf, commandsOf, textOf, parsed, begun, pushed, ended, left, lastLine, allGathered, whole}
 use Rattle.lines.proofs.Splits.{parts}
 use Rattle.lines.proofs.Reading.{read-eight}
 
 -- ---- one piece after another
 
-pub left-append : (p q : Text) (l : Line) → left l (p ++ q) ≡ left (left l p) q
+pub left-append : (p q : Text) (l : Unfinished) → left l (p ++ q) ≡ left (left l p) q
 unfolding left
 left-append [] q l = refl
 left-append (x ∷ p) q l = by (eqb x 10) (λ m. left-append p q m)
   where
-    by : (b : Bool) → ((m : Line) → left m (p ++ q) ≡ left (left m p) q)
+    by : (b : Bool) → ((m : Unfinished) → left m (p ++ q) ≡ left (left m p) q)
         → cond b (left begun (p ++ q)) (left (pushed l x) (p ++ q)) ≡ left (cond b (left begun p) (left (pushed l x) p)) q
     by true ih = ih begun
     by false ih = ih (pushed l x)
 
-pub ended-append : (p q : Text) (l : Line) → ended l (p ++ q) ≡ ended l p ++ ended (left l p) q
+pub ended-append : (p q : Text) (l : Unfinished) → ended l (p ++ q) ≡ ended l p ++ ended (left l p) q
 unfolding left ended
 ended-append [] q l = refl
 ended-append (x ∷ p) q l = by (eqb x 10) (λ m. ended-append p q m)
   where
-    by : (b : Bool) → ((m : Line) → ended m (p ++ q) ≡ ended m p ++ ended (left m p) q)
+    by : (b : Bool) → ((m : Unfinished) → ended m (p ++ q) ≡ ended m p ++ ended (left m p) q)
         → cond b (parsed l ∷ ended begun (p ++ q)) (ended (pushed l x) (p ++ q))
         ≡ cond b (parsed l ∷ ended begun p) (ended (pushed l x) p) ++ ended (cond b (left begun p) (left (pushed l x) p)) q
     by true ih = ap (λ (cs : List Command). parsed l ∷ cs) (ih begun)
     by false ih = ih (pushed l x)
 
 -- pieces are one piece, and then the last line
-pub all-whole : (ps : List Text) (l : Line) → allGathered l ps ≡ ended l (whole ps) ++ lastOf (left l (whole ps))
+pub all-whole : (ps : List Text) (l : Unfinished) → allGathered l ps ≡ ended l (whole ps) ++ lastLine (left l (whole ps))
 unfolding allGathered whole left ended
 all-whole [] l = refl
 all-whole (p ∷ ps) l =
@@ -51,7 +51,7 @@ all-whole (p ∷ ps) l =
 -- ---- what the unfinished line keeps
 
 -- l stands for the text t
-record Holds (l : Line) (t : Text) : Type 0 where
+record Holds (l : Unfinished) (t : Text) : Type 0 where
   kept : textOf l ≡ take 8 t
   size : l .len ≡ min 8 (length t)
   room : length (l .bytes) ≡ 8
@@ -60,7 +60,7 @@ holds-begun : Holds begun []
 unfolding begun
 holds-begun = record { kept = refl; size = refl; room = refl }
 
-holds-pushed : (l : Line) (t : Text) (x : ℕ) → Holds l t → Holds (pushed l x) (t ++ (x ∷ []))
+holds-pushed : (l : Unfinished) (t : Text) (x : ℕ) → Holds l t → Holds (pushed l x) (t ++ (x ∷ []))
 unfolding pushed
 holds-pushed l t x h = by (ltb (l .len) 8) refl
   where
@@ -85,7 +85,7 @@ holds-pushed l t x h = by (ltb (l .len) 8) refl
         let n : 8 ≤ length t = omega (arith, h .size) in
         record { kept = h .kept ∙ sym (take-append-le 8 t (x ∷ []) n); size = omega (arith, more, h .size); room = h .room }
 
-holds-says : (l : Line) (t : Text) → Holds l t → parsed l ≡ commandOf (readLine t)
+holds-says : (l : Unfinished) (t : Text) → Holds l t → parsed l ≡ commandOf (readLine t)
 unfolding parsed
 holds-says l t h = ap commandOf (ap readLine (h .kept) ∙ read-eight t)
 
@@ -97,21 +97,21 @@ before t [] = t ∷ []
 before t (p ∷ ps) = (t ++ p) ∷ ps
 
 -- the last line, where it is something
-last-line : (l : Line) (t : Text) → Holds l t → lastOf l ≡ commandsOf (readLines (dropEmptyLast (t ∷ [])))
-unfolding lastOf commandsOf readLines dropEmptyLast
+last-line : (l : Unfinished) (t : Text) → Holds l t → lastLine l ≡ commandsOf (readLines (dropEmptyLast (t ∷ [])))
+unfolding lastLine commandsOf readLines dropEmptyLast
 last-line l [] h = rw (eq-eqb (l .len) 0 (h .size))
 last-line l (x ∷ t) h = rw (ne-eqb (l .len) 0 (λ e. omega (arith, e, h .size)), holds-says l (x ∷ t) h)
 
-lines-from : (input : Text) (l : Line) (t : Text) → Holds l t
-    → ended l input ++ lastOf (left l input) ≡ commandsOf (readLines (dropEmptyLast (before t (splitAt 10 input))))
+lines-from : (input : Text) (l : Unfinished) (t : Text) → Holds l t
+    → ended l input ++ lastLine (left l input) ≡ commandsOf (readLines (dropEmptyLast (before t (splitAt 10 input))))
 unfolding ended left splitAt before commandsOf readLines dropEmptyLast
 lines-from [] l t h = rw append-nil (last-line l t h)
 lines-from (x ∷ input) l t h = by (eqb x 10) (parts 10 input) (λ m s k. lines-from input m s k)
   where
     by : (b : Bool) → (p : Text) × (ps : List Text) × (splitAt 10 input ≡ p ∷ ps)
-        → ((m : Line) (s : Text) → Holds m s
-        → ended m input ++ lastOf (left m input) ≡ commandsOf (readLines (dropEmptyLast (before s (splitAt 10 input)))))
-        → cond b (parsed l ∷ ended begun input) (ended (pushed l x) input) ++ lastOf (cond b (left begun input) (left (pushed l x) input))
+        → ((m : Unfinished) (s : Text) → Holds m s
+        → ended m input ++ lastLine (left m input) ≡ commandsOf (readLines (dropEmptyLast (before s (splitAt 10 input)))))
+        → cond b (parsed l ∷ ended begun input) (ended (pushed l x) input) ++ lastLine (cond b (left begun input) (left (pushed l x) input))
         ≡ commandsOf (readLines (dropEmptyLast (before t (cond b ([] ∷ splitAt 10 input) (ontoFirst x (splitAt 10 input))))))
     by true r ih = rw (ih begun [] holds-begun, r .2, append-nil, holds-says l t h)
     by false r ih = rw (ih (pushed l x) (t ++ (x ∷ [])) (holds-pushed l t x h), r .2, append-assoc)

@@ -14,7 +14,7 @@ use Rattle.rules.specs.Stamps.{start}
 use Rattle.rules.specs.Stored.{stored, unlawful, blank, absent}
 use Rattle.rules.specs.Refusals.{first, long, many, overlap, unseen}
 use Rattle.rules.specs.Tables.{Table, at, stampAt, stepped, badSize, noSlot, lowest, full, oneSlot, freshTable, updateAt, forkAt, joinAt, compareAt, spareAt}
-use Rattle.rules.specs.Traces.{Text, update, fork, join, compare, spare, unreadable, lineText, lineTable, tracedFrom, traced, readLines, linesOf, Line as Meaning}
+use Rattle.rules.specs.Traces.{Text, update, fork, join, compare, spare, unreadable, lineText, lineTable, tracedFrom, traced, readLines, linesOf, Line}
 use Rattle.rules.specs.declared.Refusal.{Refusal}
 use Rattle.rules.specs.declared.Refusal.the-variants.{NoSlot, OneSlot, Full, Long, Many, Overlap, Unseen, Unfit}
 use Rattle.rules.specs.declared.Answer.{Answer}
@@ -30,7 +30,7 @@ use Rattle.lines.proofs.Texts.{unread-text, slot-text, compared-text, s
 
 -- ---- a command says its line
 
-pub meant-command : (m : Meaning) → meant (commandOf m) ≡ m
+pub meant-command : (m : Line) → meant (commandOf m) ≡ m
 unfolding meant commandOf
 meant-command (update a) = refl
 meant-command (fork a) = refl
@@ -105,7 +105,7 @@ module _ (L : Limits) (t : Table) where
   joinTable : ℕ → ℕ → Table
   joinTable a b = set (set t a (stored L (Stamps.join (stampAt t a) (stampAt t b)))) b (blank L)
 
-  pub line-size : (m : Meaning) → length (lineTable L t m) ≡ length t
+  pub line-size : (m : Line) → length (lineTable L t m) ≡ length t
   unfolding lineTable updateAt forkAt joinAt updates forks joins updateTable forkTable joinTable
   line-size (update a) = step-size (updates a) a t (updateTable a) (length-set t a _)
   line-size (fork a) = step-size (forks a) (lowest L t) t (forkTable a) (length-set (set t a _) (lowest L t) _ ∙ length-set t a _)
@@ -140,7 +140,7 @@ module _ (L : Limits) (t : Table) where
 
 -- ---- one line
 
-pub print-line : (L : Limits) (t : Table) (m : Meaning) → length t ≤ records → answerText (commandOf m .op) (answerNumber L t m) ≡ lineText L t m
+pub print-line : (L : Limits) (t : Table) (m : Line) → length t ≤ records → answerText (commandOf m .op) (answerNumber L t m) ≡ lineText L t m
 unfolding answerText commandOf answerNumber lineText
 print-line L t (update a) h = slot-text (updateAt L t a .answer) (λ n e. omega (arith, update-slot L t a n e))
 print-line L t (fork a) h = slot-text (forkAt L t a .answer) (λ n e. omega (arith, fork-slot L t a n e))
@@ -151,7 +151,7 @@ print-line L t unreadable h = unread-text
 
 -- ---- all lines
 
-pub prints : (L : Limits) (ms : List Meaning) (t : Table) → length t ≤ records → answersText (answered L t (commandsOf ms)) ≡ tracedFrom L t ms
+pub prints : (L : Limits) (ms : List Line) (t : Table) → length t ≤ records → answersText (answered L t (commandsOf ms)) ≡ tracedFrom L t ms
 unfolding answersText answered commandsOf tracedFrom
 prints L [] t h = refl
 prints L (m ∷ ms) t h =

@@ -21,4 +21,4 @@ pub gather-one-answer : OneAnswer gather.ended (λ M 𝓤. gather.clauses 𝓤) 
 gather-one-answer M 𝓤 H A mem run = (refl, λ κs a g h r s v w. both-say 𝓤 (λ e f. (agree (e .0) (f .0), λ i. (tt, (tt, (agree (e .1) (f .1) i, tt))))))
 
 pub print-one-answer : OneAnswer print.ended (λ M 𝓤. print.clauses 𝓤) (λ M 𝓤. print.spec 𝓤)
-print-one-answer M 𝓤 H A mem run = (refl, λ κs a g h r s v w. both-say 𝓤 (λ e f. (agree (e .0) (f .0), λ i. (tt, (tt, (agree (e .1) (f .1) i, tt))))))
+print-one-answer M 𝓤 H A mem run = (refl, λ κs a g h r s v w. both-say 𝓤 (λ e f. (agree (e .0) (f .0), λ i. (tt, (agree (e .1) (f .1) i, tt)))))

@@ -1,7 +1,7 @@
 -- What an answer's number prints: `op` is the letter of the command, `code` the number of its answer.
-use mathlib.Core.Bool.{Bool, cond, _||_, _&&_}
+use mathlib.Core.Bool.{Bool, true, false, cond, _||_}
 use mathlib.Core.List.{List, [], _∷_, _++_}
-use Prim.Native.Nat.{ℕ, _*_, _%_}
+use Prim.Native.Nat.{ℕ, _*_, _/_, _%_}
 use lib.Dec.{eqb, leb, ltb}
 use lib.ListN.{length}
 use Rattle.rules.specs.Traces.{Text, decimal, verdictText, sparedText}
@@ -9,7 +9,8 @@ use Rattle.rules.specs.Packed.{over}
 use Rattle.rules.specs.declared.Verdict.the-variants.{Equal, Obsolete, Newer, Conflict}
 use Rattle.rules.specs.declared.Spared.the-variants.{Spare, Kept}
 use Rattle.lines.specs.declared.Command.{Command}
-use Rattle.lines.specs.Commands.{commandsIn}
+use Rattle.lines.specs.declared.Printed.{Printed}
+use Rattle.lines.specs.Commands.{heldIn}
 
 -- a number's two last digits, then newline
 unfoldable pub numberText : ℕ → Text
@@ -46,13 +47,14 @@ unfoldable pub answersText : List Command → Text
 answersText [] = []
 answersText (c ∷ cs) = answerText (c .op) (c .a) ++ answersText cs
 
--- a line has at most 11 bytes; without room for so many, or without the commands, nothing is written
-abbrev pub canPrint : List ℕ → ℕ → List ℕ → Bool
-canPrint commands count out = leb (3 * count) (length commands) && leb (11 * count) (length out)
+-- a line has at most 11 bytes; without room for so many of each answer nothing is written
+abbrev pub canPrint : List ℕ → List ℕ → Bool
+canPrint commands out = leb (11 * (length commands / 3)) (length out)
 
-unfoldable pub printed : List ℕ → ℕ → List ℕ → ℕ
-printed commands count out = cond (canPrint commands count out) (length (answersText (commandsIn count commands))) 0
+unfoldable pub printed : List ℕ → List ℕ → Printed
+printed commands out =
+    cond (canPrint commands out) (record { taken = true; len = length (answersText (heldIn commands)) }) (record { taken = false; len = 0 })
 
 -- the text at the front, and the rest as it was
-unfoldable pub printedIn : List ℕ → ℕ → List ℕ → List ℕ
-printedIn commands count out = cond (canPrint commands count out) (over (answersText (commandsIn count commands)) out) out
+unfoldable pub printedIn : List ℕ → List ℕ → List ℕ
+printedIn commands out = cond (canPrint commands out) (over (answersText (heldIn commands)) out) out

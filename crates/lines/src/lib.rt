@@ -26,7 +26,7 @@ pub const SPARE: u64 = 83;
 const NEWLINE: u8 = 10;
 
 // A line that is not ended yet: how many bytes are kept of it, and those bytes. No line of eight bytes or more reads.
-pub struct Line {
+pub struct Unfinished {
     pub len: usize,
     pub bytes: [u8; 8],
 }
@@ -34,28 +34,35 @@ pub struct Line {
 // What a line says: its letter, and the slots that it names, else 0. An unreadable line has no letter, 0.
 pub struct Command {
     pub op: u64,
-    pub a: u64,
-    pub b: u64,
+    pub a: usize,
+    pub b: usize,
 }
 
-// What a piece leaves: the line that is unfinished behind it, and how many lines ended in it.
+// What a piece leaves: the line that is unfinished behind it, whether there was room, and how many lines ended in it.
 pub struct Gathered {
-    pub line: Line,
+    pub line: Unfinished,
+    pub taken: bool,
     pub count: usize,
 }
 
+// Whether there was room for the answers, and the length of their text.
+pub struct Printed {
+    pub taken: bool,
+    pub len: usize,
+}
+
 // The line before its first byte.
-pub fn begin() -> Line
+pub fn begin() -> Unfinished
     ensures { λ r. ⌜ r ≡ begun ⌝ }
 {
-    Line {
+    Unfinished {
         len: 0,
         bytes: [0; 8],
     }
 }
 
 // The line with one byte more; from the eighth on no byte is kept.
-pub fn push(line: Line, x: u8) -> Line
+pub fn push(line: Unfinished, x: u8) -> Unfinished
     ensures { λ r. ⌜ r ≡ pushed line x ⌝ }
 {
     let n = line.len;
@@ -69,7 +76,7 @@ pub fn push(line: Line, x: u8) -> Line
 }
 
 // The command of a whole line.
-pub fn parse(line: Line) -> Command
+pub fn parse(line: Unfinished) -> Command
     ensures { λ r. ⌜ r ≡ parsed line ⌝ }
 {
     let n = line.len;
@@ -81,13 +88,17 @@ pub fn parse(line: Line) -> Command
 }
 
 // The commands of the lines that end in the piece, three numbers each, at the front of the buffer; the rest of it stays.
-// The buffer has to have three numbers for each byte of the piece. Where it has not, nothing is read and nothing written.
-pub fn gather(line: Line, piece: &[u8], commands: &mut [u64]) -> Gathered
+// The buffer has to have three numbers for each byte of the piece. Where it has not, the piece is not taken: nothing is read or written.
+pub fn gather(line: Unfinished, piece: &[u8], commands: &mut [u64]) -> Gathered
     ensures { λ r. ⌜ (r ≡ gathered line (now (piece .entry)) (now (commands .entry)))
         × (now (commands .exit) ≡ gatheredIn line (now (piece .entry)) (now (commands .entry))) ⌝ }
 {
     if commands.len() / 3 < piece.len() {
-        return Gathered { line, count: 0 };
+        return Gathered {
+            line,
+            taken: false,
+            count: 0,
+        };
     }
     let mut held = line;
     let mut count = 0;
@@ -103,20 +114,25 @@ pub fn gather(line: Line, piece: &[u8], commands: &mut [u64]) -> Gathered
             held = push(held, x);
         }
     }
-    Gathered { line: held, count }
+    Gathered {
+        line: held,
+        taken: true,
+        count,
+    }
 }
 
-// The text of the first `count` answers, at the front of the buffer; the rest of it stays. Gives the text's length.
-// The buffer has to have 11 bytes for each answer. Where it has not, or there are not so many answers, nothing is written, and 0 given.
-pub fn print(commands: &[u64], count: usize, out: &mut [u8]) -> usize
-    ensures { λ r. ⌜ (r ≡ printed (now (commands .entry)) count (now (out .entry)))
-        × (now (out .exit) ≡ printedIn (now (commands .entry)) count (now (out .entry))) ⌝ }
+// The text of all answers that the commands hold, at the front of the buffer; the rest of it stays.
+// The buffer has to have 11 bytes for each answer. Where it has not, none is taken: nothing is written.
+pub fn print(commands: &[u64], out: &mut [u8]) -> Printed
+    ensures { λ r. ⌜ (r ≡ printed (now (commands .entry)) (now (out .entry)))
+        × (now (out .exit) ≡ printedIn (now (commands .entry)) (now (out .entry))) ⌝ }
 {
-    if commands.len() / 3 < count {
-        return 0;
-    }
+    let count = commands.len() / 3;
     if out.len() / 11 < count {
-        return 0;
+        return Printed {
+            taken: false,
+            len: 0,
+        };
     }
     let mut at = 0;
     let mut k = 0;
@@ -125,7 +141,10 @@ pub fn print(commands: &[u64], count: usize, out: &mut [u8]) -> usize
         at = answers::put_answer(out, at, commands[i], commands[i + 1]);
         k += 1;
     }
-    at
+    Printed {
+        taken: true,
+        len: at,
+    }
 }
 
 // A command's three numbers, from a place of the buffer on.
@@ -134,6 +153,6 @@ fn store(commands: &mut [u64], at: usize, c: Command)
     ensures { λ _. ⌜ now (commands .exit) ≡ sets (now (commands .entry)) at (c .op ∷ c .a ∷ c .b ∷ []) ⌝ }
 {
     commands[at] = c.op;
-    commands[at + 1] = c.a;
-    commands[at + 2] = c.b;
+    commands[at + 1] = c.a as u64;
+    commands[at + 2] = c.b as u64;
 }

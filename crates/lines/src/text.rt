@@ -59,7 +59,7 @@ fn with_one(letter: u64, a: u64) -> Command
     match letter {
         UPDATE | FORK | SPARE => Command {
             op: letter,
-            a,
+            a: a as usize,
             b: 0,
         },
         _ => unreadable(),
@@ -77,7 +77,11 @@ fn with_two(letter: u64, a: u64, b: u64) -> Command
         return unreadable();
     }
     match letter {
-        JOIN | COMPARE => Command { op: letter, a, b },
+        JOIN | COMPARE => Command {
+            op: letter,
+            a: a as usize,
+            b: b as usize,
+        },
         _ => unreadable(),
     }
 }

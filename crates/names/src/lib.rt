@@ -1,4 +1,4 @@
-// Names by value, on records of any content: the one stored shape.
+// Names of any content, as lent words and a count: the one stored shape.
 ghost use mathlib.Core.Path.{_≡_};
 ghost use mathlib.Core.Bool.{true, _&&_};
 ghost use Prim.Native.Nat.{_≤_};
@@ -9,7 +9,6 @@ ghost use Rattle.rules.specs.Strings.{less, strOf, isWord};
 ghost use Rattle.rules.specs.Names.{all, rising};
 ghost use Rattle.rules.specs.Stored.{strsIn, isStoredName};
 ghost use Rattle.names.specs.Lent.{countedIs, grownIn};
-use rules::Words;
 use std::num::wrapping_add_u64;
 use strings::begins;
 use strings::is_word;
@@ -19,13 +18,6 @@ pub const STRINGS: usize = 16;
 
 // The union of two names has at most so many strings.
 pub const UNION: usize = 32;
-
-// Whether the record is the stored shape of a name.
-pub fn is_name(n: Words) -> bool
-    ensures { λ r. ⌜ r ≡ isStoredName narrow n ⌝ }
-{
-    is_name_in(&n.words, n.count)
-}
 
 // Whether so many strings in these words would be the record of a name: never in fewer or more words than a record has.
 pub fn is_name_in(words: &[u64], count: usize) -> bool

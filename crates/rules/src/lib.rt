@@ -8,7 +8,7 @@ pub struct Words {
     pub words: [u64; 16],
 }
 
-// A copy record: a stamp's update name and id name. All zeros where there is no copy.
+// A copy record: a stamp's update name and id name. All zeros where there is no copy. Its layout is that of C, so that C can lend a run.
 #[repr(C)]
 pub struct Record {
     pub update: Words,

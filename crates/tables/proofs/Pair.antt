@@ -1,19 +1,16 @@
 -- One walk for the functions over two slots: a covered gate, one branch, two elements read, a covered rule by value, two stores.
--- `ν` is the rule's symbol, `rule` what it gives, `code` and `list` what the function's contract says. Assumes nothing.
+-- `ν` is the rule's symbol, `rule` what it gives. Assumes nothing.
 use Rattle.frames.proofs.Walk.{_≡_, refl, sym, subst, _∙_, true, false, cond, List, [], _∷_, ℕ, _<_, eqb, length, getD, set, length-set, URA, fullShare, Name}
 use Rattle.frames.proofs.Walk.{w64, Heap, Tables, Atoms, fmOf, Given, _$_, !, by, Room, Triple, look, and-then, no-more, returns-within, lit, of-opd, bin}
-use Rattle.frames.proofs.Walk.{returns, ifs, var, piece, sets, leaves, number, Ins, Gives, calls-by, fetch, puts, Says, Walk, lends}
+use Rattle.frames.proofs.Walk.{returns, ifs, var, piece, sets, leaves, number, Ins, Gives, calls-by, fetch, puts, Says, Walk}
 use Rattle.frames.proofs.Elems.{sized}
-use Rattle.frames.proofs.Lent.{of, lent, lending}
+use Rattle.frames.proofs.Lent.{of}
 use mir.Syntax.{Ty, Opd, Body, Fn, named, mut, tyPtr, tyInt, tyBool, tyRef, place, deref, field, copy, int, rvOpd, op2, mul, unsigned, offset, eq}
 use mir.Syntax.{skip, seq, assign, cond as branch, return, call}
 use prog.Memory.{size}
-use prog.Wp.{WpFn}
 use denote.Slice.{sliceTy}
 use denote.Memory.{pointee}
 use denote.Struct.Laws as LL
-use denote.Triple.Clauses.{closing}
-use denote.Triple.Spec.{Meets}
 use Rattle.rules.specs.Tables.{outside}
 use Rattle.rules.specs.declared.Record.{Record}
 use Rattle.rules.proofs.Record as T
@@ -83,16 +80,15 @@ module _ (rule : ℕ → ℕ → Record → Record → Two) where
     abbrev pub pairList : List Record
     pairList = cond (eqb (gateCode (length ys) i j) 0) (set (set ys i (met .first)) j (met .second)) ys
 
-abbrev pub pairSays : (List Record → ℕ → ℕ → ℕ) → (List Record → ℕ → ℕ → List Record) → Says item (number ∷ number ∷ []) number
-pairSays code list κs ys a r zs = (r ≡ code ys (a .0) (a .1 .0)) × (zs ≡ list ys (a .0) (a .1 .0))
+  abbrev pub pairSays : Says item (number ∷ number ∷ []) number
+  pairSays κs ys a r zs = (r ≡ pairCode ys (a .0) (a .1 .0)) × (zs ≡ pairList ys (a .0) (a .1 .0))
 
-module _ (ν : Name) (rule : ℕ → ℕ → Record → Record → Two) (code : List Record → ℕ → ℕ → ℕ) (list : List Record → ℕ → ℕ → List Record)
-    (tied : (ys : List Record) (i j : ℕ) → (pairCode rule ys i j ≡ code ys i j) × (pairList rule ys i j ≡ list ys i j))
+module _ (ν : Name) (rule : ℕ → ℕ → Record → Record → Two)
     {M : Type 1} (𝓤 : URA M) (H : Heap 𝓤) (A : Atoms 𝓤) (W : Given 𝓤 H A) (𝓣 : Tables 𝓤 H)
     (known-gate : Triple 𝓤 (𝓣 .C #slots·gate) (Gives 𝓤 H A (number ∷ number ∷ number ∷ []) number gateOf))
     (known-rule : Triple 𝓤 (𝓣 .C ν) (Gives 𝓤 H A (number ∷ number ∷ item ∷ item ∷ []) two (ruleOf rule))) where
   -- [the locals, 0 to 15; what frees them; the run, 17; what closes it]
-  pair-walk : Walk item (number ∷ number ∷ []) number 𝓤 H A (pairSays code list) W 𝓣 (pairFn ν)
+  pub pair-walk : Walk item (number ∷ number ∷ []) number 𝓤 H A (pairSays rule) W 𝓣 (pairFn ν)
   pair-walk κs b o ys a gn good Post S closes bs =
       let i : ℕ = a .0 in let j : ℕ = a .1 .0 in let g : ℕ = gateCode (length ys) i j in
       let ei : Record = getD ys i outside in let ej : Record = getD ys j outside in let d : Two = rule i j ei ej in
@@ -115,13 +111,7 @@ module _ (ν : Name) (rule : ℕ → ℕ → Record → Record → Two) (code : 
       (of-opd ! (piece ! refl refl refl)) $
       sets ! (of-opd ! (piece ! refl refl refl)) refl (tt, record { fits = fields .0 .1 }) $
       returns-within ! Post refl (look ! 0 refl) $ leaves ! refl refl $
-      by ! (closes ys₂ (d .code) same₂ (let p : d .code ≡ pairCode rule ys i j = simp e₀ in let z : ys₂ ≡ pairList rule ys i j = simp e₀ in
-      (p ∙ tied ys i j .0, z ∙ tied ys i j .1)) (fields .0))))))
+      by ! (closes ys₂ (d .code) same₂ (let p : d .code ≡ pairCode rule ys i j = simp e₀ in let z : ys₂ ≡ pairList rule ys i j = simp e₀ in (p, z)) (fields .0))))))
       (λ no′. let e₁ : eqb g 0 ≡ false = holds-false (eqb g 0) no′ in
       sets ! (of-opd ! (var ! refl)) refl (tt, record { fits = ig .1 }) $ returns ! (look ! 0 refl) $ leaves ! refl refl $
-      by ! (closes ys g refl (let p : g ≡ pairCode rule ys i j = simp e₁ in let z : ys ≡ pairList rule ys i j = simp e₁ in
-      (p ∙ tied ys i j .0, z ∙ tied ys i j .1)) ig)))
-
-  pub pair-meets : Meets 𝓤 H A (lent item (number ∷ number ∷ []) number .signature) (WpFn 𝓤 H (𝓣 .C) (𝓣 .Λ) (pairFn ν))
-      (closing 𝓤 H A (lent item (number ∷ number ∷ []) number) (lending item (number ∷ number ∷ []) number 𝓤 H A (pairSays code list)))
-  pair-meets = lends item (number ∷ number ∷ []) number 𝓤 H A (pairSays code list) W 𝓣 (pairFn ν) _ refl pair-walk
+      by ! (closes ys g refl (let p : g ≡ pairCode rule ys i j = simp e₁ in let z : ys ≡ pairList rule ys i j = simp e₁ in (p, z)) ig)))

@@ -1,6 +1,6 @@
 // The trace tool: answers the lines of standard input on standard output. What is printed stands in `inputs`; here is the loop over the pieces.
 ghost use mathlib.Core.Path.{_≡_};
-ghost use mathlib.Core.Bool.{true};
+ghost use mathlib.Core.Bool.{true, false};
 ghost use Prim.Native.Nat.{_*_, _≤_, _<_};
 ghost use lib.ListN.{length};
 use inputs::Fed;
@@ -25,23 +25,18 @@ fn main() {
 }
 
 // Piece after piece to the end of the input, then a last line without newline. A read or a write that fails ends it.
-// A proved loop has to end, so it counts its turns down, from a number that no run uses up.
+// A proved loop has to end: this one does because each turn carries on the trace that its piece left, which takes fewer bytes more.
 fn answer(piece: &mut [u8], commands: &mut [u64], out: &mut [u8])
     requires { ⌜ 0 < length (now piece) ⌝ }
     requires { ⌜ 3 * length (now piece) ≤ length (now commands) ⌝ }
     requires { ⌜ 11 * length (now piece) ≤ length (now out) ⌝ }
 {
     let mut trace = inputs::start();
-    let mut turns = u64::MAX;
     let mut got = libc::read(STDIN_FILENO, piece);
     while got > 0 {
-        if turns == 0 {
-            return;
-        }
-        turns -= 1;
         let n = io::count(got, piece);
         let fed = inputs::feed(trace, &piece[..n], commands, out);
-        if !show(out, fed) {
+        if !show(out, fed, n) {
             return;
         }
         trace = fed.trace;
@@ -52,16 +47,22 @@ fn answer(piece: &mut [u8], commands: &mut [u64], out: &mut [u8])
         return;
     }
     let last = inputs::close(trace, commands, out);
-    show(out, last);
+    show(out, last, 1);
 }
 
-// The text of a piece that was taken, on standard output, or why not on standard error.
-fn show(out: &[u8], fed: Fed) -> bool
-    requires { ⌜ fed .taken ≡ true ⌝ }
+// The text of a piece of n bytes on standard output, or why not on standard error. Only a piece of more bytes than the trace still
+// takes is not taken, and no input is so long.
+fn show(out: &[u8], fed: Fed, n: usize) -> bool
+    requires { ⌜ (fed .taken ≡ false → fed .trace .budget < n) ⌝ }
     requires { ⌜ fed .len ≤ length (now out) ⌝ }
+    ensures { λ r. ⌜ (r ≡ true → fed .taken ≡ true) ⌝ }
 {
-    let n = fed.len;
-    let is_written = io::write_all(STDOUT_FILENO, &out[..n]);
+    if !fed.taken {
+        io::write_all(STDERR_FILENO, b"trace: too long\n");
+        return false;
+    }
+    let end = fed.len;
+    let is_written = io::write_all(STDOUT_FILENO, &out[..end]);
     if !is_written {
         os::fail(b"trace: write");
     }

@@ -2,4 +2,5 @@
 pub mod Tied
 pub mod Turns
 pub mod Ran
+pub mod Plain
 pub mod Unique

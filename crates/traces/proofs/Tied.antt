@@ -1,22 +1,24 @@
 -- Reading and then changing is serving: at most one of the two knows the letter.
 use mathlib.Core.Path.{_≡_, refl}
 use mathlib.Core.Bool.{Bool, true, false, cond}
-use Prim.Native.Nat.{ℕ}
+use Prim.Native.Nat.{ℕ, _+_}
 use lib.Dec.{eqb}
 use Rattle.rules.specs.Limits.{narrow}
 use Rattle.rules.specs.Packed.{comparedNumber}
+use Rattle.rules.specs.Refusals.{number}
+use Rattle.rules.specs.declared.Refusal.the-variants.{Unread}
 use Rattle.rules.specs.Tables.{Table, updateAt, forkAt, joinAt, compareAt, spareAt, slotNumber, sparedNumber}
-use Rattle.rules.specs.Traces.{update, fork, join, compare, spare, unreadable, lineTable, Line as Meaning}
+use Rattle.rules.specs.Traces.{update, fork, join, compare, spare, unreadable, lineTable, Line}
 use Rattle.lines.specs.Runs.{meant, answerNumber}
 use Rattle.traces.specs.Serves.{command}
 use Rattle.traces.specs.Inner.{toldNumber, changedNumber, changedTable}
 
 module _ (t : Table) (a b : ℕ) where
-  abbrev by-letter : Bool → Bool → Bool → Bool → Bool → Meaning
+  abbrev by-letter : Bool → Bool → Bool → Bool → Bool → Line
   by-letter u f j c s = cond u (update a) (cond f (fork a) (cond j (join a b) (cond c (compare a b) (cond s (spare a) unreadable))))
 
   number-by : (u f j c s : Bool) → cond u (slotNumber (updateAt narrow t a .answer)) (cond f (slotNumber (forkAt narrow t a .answer))
-      (cond j (slotNumber (joinAt narrow t a b .answer)) (cond c (comparedNumber (compareAt narrow t a b)) (cond s (sparedNumber (spareAt narrow t a)) 0))))
+      (cond j (slotNumber (joinAt narrow t a b .answer)) (cond c (comparedNumber (compareAt narrow t a b)) (cond s (sparedNumber (spareAt narrow t a)) (1000 + number Unread)))))
       ≡ answerNumber narrow t (by-letter u f j c s)
   unfolding answerNumber
   number-by true f j c s = refl

@@ -1,12 +1,10 @@
 -- What the loop over a buffer's commands comes to from a turn on: a turn leaves it as it was, at the end it is what stands there, and at the start
 -- it is what the contract says. Assumes nothing.
 use mathlib.Core.Path.{_≡_, refl, ap, _∙_}
-use mathlib.Core.Bool.{Bool, true, false, cond}
 use mathlib.Core.List.{List, [], _∷_}
 use Prim.Native.Nat.{ℕ, zero, suc, _+_, _*_, _-_, _/_, _≤_, _<_}
 use native.Mathlib.Omega.{arith}
-use borrow.Author.Tests.{le-leb, lt-leb, leb-true, leb-false, lt-ltb}
-use lib.Dec.{leb}
+use borrow.Author.Tests.{lt-ltb}
 use lib.ListN.{length, getD, set}
 use Rattle.rules.specs.Limits.{narrow}
 use Rattle.rules.specs.Packed.{over}
@@ -14,8 +12,8 @@ use Rattle.rules.specs.Tables.{Table}
 use Rattle.rules.specs.Traces.{Line, lineTable}
 use Rattle.lines.specs.Commands.{numbers, commandsIn}
 use Rattle.lines.specs.Runs.{meant, answerNumber, answered, tableAfter}
-use Rattle.traces.specs.Serves.{command, ranCount, ranTable, ranIn}
-use Rattle.traces.specs.Inner.{callAt, putAt, saidAt, readyOf}
+use Rattle.traces.specs.Serves.{command, ranTable, ranIn}
+use Rattle.traces.specs.Inner.{commandAt, putAt}
 
 -- the command at place i, and what its turn leaves
 abbrev pub lineAt : List ℕ → ℕ → Line
@@ -66,45 +64,15 @@ runs-front (suc n) t (x ∷ (y ∷ (z ∷ l))) h =
     runs-behind n 0 (lineTable narrow t m) l x d z
     ∙ ap (λ (r : Table × List ℕ). (r .0, x ∷ d ∷ z ∷ r .1)) (runs-front n (lineTable narrow t m) l (omega arith))
 
-pub runs-all : (n : ℕ) (t : Table) (l : List ℕ) → n ≤ length l / 3 → runs (n - 0) (3 * 0) t l ≡ (ranTable t l n, ranIn t l n)
+-- all that the buffer holds
+pub runs-all : (t : Table) (l : List ℕ) → runs (length l / 3 - 0) (3 * 0) t l ≡ (ranTable t l, ranIn t l)
 unfolding ranTable ranIn
-runs-all n t l h =
-    let all : n - 0 ≡ n = omega arith in
-    rw (all, le-leb (3 * n) (length l) (omega arith)) (runs-front n t l (omega arith))
+runs-all t l = let all : length l / 3 - 0 ≡ length l / 3 = omega arith in rw all (runs-front (length l / 3) t l (omega arith))
 
-pub runs-none : (n : ℕ) (t : Table) (l : List ℕ) → length l / 3 < n → (t ≡ ranTable t l n) × (l ≡ ranIn t l n)
-unfolding ranTable ranIn
-runs-none n t l h = let e = lt-leb (3 * n) (length l) (omega arith) in (rw e, rw e)
-
--- ---- as many as are ready
-
-pub ready-fits : (size count : ℕ) → readyOf size count ≤ size / 3
-unfolding readyOf
-ready-fits size count = by (leb count (size / 3)) refl
-  where
-    by : (y : Bool) → leb count (size / 3) ≡ y → cond y count 0 ≤ size / 3
-    by true e = leb-true count (size / 3) e
-    by false e = omega arith
-
--- a turn that `step` took
-pub runs-step : (count k : ℕ) (t u : Table) (l m : List ℕ) → k < count → k < length l / 3 → u ≡ lineTable narrow t (saidAt l k)
-    → m ≡ putAt l k (answerNumber narrow t (saidAt l k)) → runs (count - (k + 1)) (3 * (k + 1)) u m ≡ runs (count - k) (3 * k) t l
-unfolding callAt putAt
+-- a turn, as the loop takes it
+pub runs-step : (count k : ℕ) (t u : Table) (l m : List ℕ) → k < count → k < length l / 3 → u ≡ lineTable narrow t (meant (commandAt l k))
+    → m ≡ putAt l k (answerNumber narrow t (meant (commandAt l k))) → runs (count - (k + 1)) (3 * (k + 1)) u m ≡ runs (count - k) (3 * k) t l
+unfolding commandAt putAt
 runs-step count k t u l m h few left stored =
     let e = lt-ltb k (length l / 3) few in
     rw (stored, left, e) (runs-turn count k t _ l _ h refl refl)
-
-pub ready-all : (count : ℕ) (t : Table) (l : List ℕ)
-    → (readyOf (length l) count ≡ ranCount l count) × (runs (readyOf (length l) count - 0) (3 * 0) t l ≡ (ranTable t l count, ranIn t l count))
-unfolding readyOf ranCount
-ready-all count t l = by (leb count (length l / 3)) refl
-  where
-    by : (y : Bool) → leb count (length l / 3) ≡ y
-        → (cond y count 0 ≡ cond (leb (3 * count) (length l)) count 0) × (runs (cond y count 0 - 0) (3 * 0) t l ≡ (ranTable t l count, ranIn t l count))
-    by true e =
-        let h = leb-true count (length l / 3) e in
-        (rw (le-leb (3 * count) (length l) (omega arith)), runs-all count t l h)
-    by false e =
-        let h = leb-false count (length l / 3) e in
-        let none = runs-none count t l h in
-        (rw (lt-leb (3 * count) (length l) (omega arith)), runs-end 0 0 t l (omega arith) ∙ (λ i. (none .0 i, none .1 i)))

@@ -3,10 +3,11 @@
 use mathlib.Core.Path.{_≡_, sym, ap, _∙_}
 use mathlib.Core.Bool.{true}
 use mathlib.Core.List.{List}
-use Prim.Native.Nat.{ℕ}
+use Prim.Native.Nat.{ℕ, _≤_}
 use borrow.Author.Needs.{needs}
 use lib.Dec.{lit≤}
 use lib.ListN.{length}
+use lib.Seq.{length-take-le}
 use Rattle.rules.specs.Limits.{narrow}
 use Rattle.rules.specs.Stored.{isStored}
 use Rattle.rules.specs.Values.{compared}
@@ -18,8 +19,8 @@ use Rattle.rules.specs.declared.Answer.{Answer}
 use Rattle.rules.specs.declared.Answer.the-variants.{Done, Refused}
 use Rattle.rules.specs.declared.Compared.{Compared}
 use Rattle.rules.specs.declared.Compared.the-variants.{Is, Refused as NotCompared}
-use Rattle.names.proofs.Shape.{stored-full}
-use Rattle.stamps.proofs.Laws.{stored-names}
+use Rattle.walks.proofs.Meets.{compare-walk}
+use Rattle.stamps.proofs.Laws.{stored-names, lent-room}
 use Rattle.reading.proofs.Lent.{givenBy, read-is}
 use Rattle.calls.proofs.Laws.{read-stored}
 use Rattle.calls.proofs.compare.Statement.{statement}
@@ -78,18 +79,18 @@ module _ (c : tie.After-enum-told3) where
   lawful2 : isStored narrow (got2 twice .stamp) ≡ true
   lawful2 = read-stored narrow (lit≤ tt) (start (done twice) .args .second .now) (got2 twice) (is-got2 twice) (c .enum-told3 .given .1)
 
-  -- a record has so many words
-  u-full : 16 ≡ length (got (done twice) .stamp .update .words)
-  u-full = sym (stored-full narrow _ (stored-names narrow (got (done twice) .stamp) lawful .0))
+  -- and their names have no more strings than words are lent
+  k-inside : got (done twice) .stamp .update .count ≤ length (got (done twice) .stamp .update .words)
+  k-inside = lent-room _ _ (stored-names narrow (got (done twice) .stamp) lawful .0)
 
-  i-full : 16 ≡ length (got (done twice) .stamp .id .words)
-  i-full = sym (stored-full narrow _ (stored-names narrow (got (done twice) .stamp) lawful .1))
+  l-inside : got (done twice) .stamp .id .count ≤ length (got (done twice) .stamp .id .words)
+  l-inside = lent-room _ _ (stored-names narrow (got (done twice) .stamp) lawful .1)
 
-  v-full : 16 ≡ length (got2 twice .stamp .update .words)
-  v-full = sym (stored-full narrow _ (stored-names narrow (got2 twice .stamp) lawful2 .0))
+  m-inside : got2 twice .stamp .update .count ≤ length (got2 twice .stamp .update .words)
+  m-inside = lent-room _ _ (stored-names narrow (got2 twice .stamp) lawful2 .0)
 
-  j-full : 16 ≡ length (got2 twice .stamp .id .words)
-  j-full = sym (stored-full narrow _ (stored-names narrow (got2 twice .stamp) lawful2 .1))
+  n-inside : got2 twice .stamp .id .count ≤ length (got2 twice .stamp .id .words)
+  n-inside = lent-room _ _ (stored-names narrow (got2 twice .stamp) lawful2 .1)
 
 read-in-requires : tie.Need-read-in-requires
 read-in-requires c κs = search needs
@@ -131,20 +132,32 @@ returns-2 c =
     passed _ (q .read-in2 .result .answer) _ (c .uncompared2 .ensures) no
     ∙ second-refused (g .first .now) (g .second .now) (got r) (is-got r) (once q .enum-told .given .1) (got2 q) (is-got2 q) _ no
 
-slice-aggregate-told : tie.Need-slice-aggregate-told
-slice-aggregate-told c = u-full (c .before)
+array-share-prefix-u : tie.Need-array-share-prefix-u
+array-share-prefix-u c = k-inside c
 
-slice-aggregate-told-2 : tie.Need-slice-aggregate-told-2
-slice-aggregate-told-2 c = i-full (c .before .before)
+slice-aggregate-compare : tie.Need-slice-aggregate-compare
+slice-aggregate-compare c = sym (length-take-le _ _ (k-inside (c .before)))
 
-slice-aggregate-told-3 : tie.Need-slice-aggregate-told-3
-slice-aggregate-told-3 c = v-full (c .before .before .before)
+array-share-prefix-i : tie.Need-array-share-prefix-i
+array-share-prefix-i c = l-inside (c .before)
 
-slice-aggregate-told-4 : tie.Need-slice-aggregate-told-4
-slice-aggregate-told-4 c = j-full (c .before .before .before .before)
+slice-aggregate-compare-2 : tie.Need-slice-aggregate-compare-2
+slice-aggregate-compare-2 c = sym (length-take-le _ _ (l-inside (c .before .before)))
 
-told-requires : tie.Need-told-requires
-told-requires c κs = let b = c .before .before .before .before in (lawful b, lawful2 b)
+array-share-prefix-v : tie.Need-array-share-prefix-v
+array-share-prefix-v c = m-inside (c .before .before)
+
+slice-aggregate-compare-3 : tie.Need-slice-aggregate-compare-3
+slice-aggregate-compare-3 c = sym (length-take-le _ _ (m-inside (c .before .before .before)))
+
+array-share-prefix-j : tie.Need-array-share-prefix-j
+array-share-prefix-j c = n-inside (c .before .before .before)
+
+slice-aggregate-compare-4 : tie.Need-slice-aggregate-compare-4
+slice-aggregate-compare-4 c = sym (length-take-le _ _ (n-inside (c .before .before .before .before)))
+
+compare-requires : tie.Need-compare-requires
+compare-requires c κs = search needs
 
 returns-3 : tie.Need-returns-3
 returns-3 c =
@@ -152,7 +165,8 @@ returns-3 c =
     let q = twice b in
     let r = done q in
     let g = start r .args in
-    let h : c .told .result ≡ compared narrow (got r .stamp) (got2 q .stamp) = c .told .ensures in
+    let h : c .compare .result ≡ compared narrow (got r .stamp) (got2 q .stamp) =
+    c .compare .ensures ∙ compare-walk narrow (lit≤ tt) (got r .stamp) (got2 q .stamp) (lawful b) (lawful2 b) in
     h ∙ both-read (g .first .now) (g .second .now) (got r) (is-got r) (once q .enum-told .given .1) (got2 q) (is-got2 q) (b .enum-told3 .given .1)
 
 pub compare-spec : {M : Type 1} → statement M
@@ -169,9 +183,13 @@ compare-spec =
     enum-told-4
     uncompared-requires-2
     returns-2
-    slice-aggregate-told
-    slice-aggregate-told-2
-    slice-aggregate-told-3
-    slice-aggregate-told-4
-    told-requires
+    array-share-prefix-u
+    slice-aggregate-compare
+    array-share-prefix-i
+    slice-aggregate-compare-2
+    array-share-prefix-v
+    slice-aggregate-compare-3
+    array-share-prefix-j
+    slice-aggregate-compare-4
+    compare-requires
     returns-3)

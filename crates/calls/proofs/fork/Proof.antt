@@ -1,18 +1,19 @@
 -- `calls::fork` meets its contract: what the reader refuses is passed out, then an id that can grow no longer. Both branches of a lawful stamp
 -- are lawful, so that their words fit, and only the buffers are left to refuse. Assumes nothing.
 use mathlib.Core.Path.{_≡_, refl, sym, ap, _∙_}
-use mathlib.Core.Bool.{true, false}
+use mathlib.Core.Bool.{Bool, true, false}
 use mathlib.Core.List.{List, []}
 use Prim.Native.Nat.{ℕ, _≤_}
 use native.Mathlib.Omega.{arith}
 use borrow.Author.Needs.{needs}
 use lib.Dec.{eqb, lit≤}
-use lib.ListN.{length, take}
-use lib.Seq.{length-take-le}
+use lib.ListN.{length, take, replicate}
+use lib.Seq.{length-take-le, take-all}
 use Rattle.rules.specs.Limits.{narrow}
+use Rattle.rules.specs.Strings.{digit}
 use Rattle.rules.specs.Names.{any}
 use Rattle.rules.specs.Stamps.{append}
-use Rattle.rules.specs.Stored.{wordsOf, strsIn, held, isStored}
+use Rattle.rules.specs.Stored.{wordsOf, strsIn, held, isStoredName, isStored}
 use Rattle.rules.specs.Refusals.{first, long}
 use Rattle.rules.specs.Values.{forked}
 use Rattle.rules.specs.Packed.{packed, readStamp, wrote, wroteTwo, packedFork}
@@ -27,10 +28,11 @@ use Rattle.rules.specs.declared.Answer.the-variants.{Done, Refused}
 use Rattle.rules.specs.declared.Written.{Written}
 use Rattle.rules.specs.declared.Written.the-variants.{Refused as NotWritten}
 use Rattle.laws.proofs.Stored.{stored-not-unlawful}
-use Rattle.names.proofs.Shape.{stored-full}
+use Rattle.names.specs.Lent.{grownIn}
+use Rattle.names.proofs.Grown.{take-few, grown-name}
 use Rattle.walks.specs.Walks.{isLong}
 use Rattle.walks.proofs.Tells as walks
-use Rattle.stamps.proofs.Laws.{stored-names, forked-is, lent-room}
+use Rattle.stamps.proofs.Laws.{stored-few, stored-names, lent-room, forked-is}
 use Rattle.writing.specs.Fits.{writtenBoth}
 use Rattle.reading.proofs.Lent.{givenBy, read-is}
 use Rattle.writing.proofs.Writing.{two, stored-fits}
@@ -42,6 +44,18 @@ use Rattle.calls.proofs.fork.Tie as tie
 passed : (w : Written) (a : Answer) (r : Refusal) → w ≡ wrote a [] [] .answer → a ≡ Refused r → w ≡ NotWritten r
 unfolding wrote
 passed w a r e t = e ∙ ap (λ (b : Answer). wrote b [] [] .answer) t
+
+-- grown over zeros, the words of an id are those of its branch
+grown-is : (n : Words) (d : Bool) (ws : List ℕ) → isStoredName narrow n ≡ true → isLong (take (n .count) (n .words)) ≡ false
+    → ws ≡ grownIn (digit d) (take 16 (take (n .count) (n .words))) (replicate 16 0) → _≡_ {A = Words} (record { count = n .count; words = ws }) (wordsOf narrow (append d (strsIn n)))
+unfolding strsIn
+grown-is n d ws h l e =
+    let front = take (n .count) (n .words) in
+    let all : take 16 front ≡ front = take-all 16 front (omega (arith, take-few (n .count) (n .words), stored-few narrow n h)) in
+    let words : ws ≡ grownIn (digit d) front (replicate 16 0) = e ∙ ap (λ (z : List ℕ). grownIn (digit d) z (replicate 16 0)) all in
+    let same : _≡_ {A = Words} (record { count = n .count; words = ws }) (record { count = n .count; words = grownIn (digit d) front (replicate 16 0) }) =
+    λ k. record { count = n .count; words = words k } in
+    same ∙ grown-name narrow (lit≤ tt) n d h (sym (walks.long front) ∙ l)
 
 module _ (s x y : List ℕ) (g : Given) (e : g ≡ readStamp narrow s) where
   not-read : (r : Refusal) → g .answer ≡ Refused r → packedFork narrow s x y ≡ record { answer = NotWritten r; zero = x; one = y }
@@ -146,33 +160,44 @@ returns-2 c =
     two _ _
     (too-long (g .stamp .now) (g .zero .now) (g .one .now) (got r) (is-got r) (t .enum-told .given .1) (sym (l .is-long .ensures) ∙ c .if1 .taken))
 
+array-share-prefix-i-2 : tie.Need-array-share-prefix-i-2
+array-share-prefix-i-2 c = inside (c .before .before .before)
+
+slice-aggregate-grow : tie.Need-slice-aggregate-grow
+slice-aggregate-grow c = sym (length-take-le _ _ (inside (c .before .before .before .before)))
+
 grow-requires : tie.Need-grow-requires
-grow-requires c κs =
-    let e = c .before .before .before in
-    let l = e .before in
-    let t = l .before .before in
-    (stored-names narrow (got (read t) .stamp) (lawful t) .1, sym (l .is-long .ensures) ∙ e .if1 .left, refl, refl)
+grow-requires c κs = search needs
 
 -- both ids are grown
 module _ (c : tie.After-grow) where
+  abbrev grows : tie.Else1
+  grows = c .before .before .before .before
+
   abbrev done : tie.After-enum-told
-  done = c .before .before .before .before .before .before .before
+  done = grows .before .before .before
 
   abbrev zero-id : Words
-  zero-id = record { count = got (read done) .stamp .id .count; words = c .grow .last .1 .1 .0 }
+  zero-id = record { count = got (read done) .stamp .id .count; words = c .grow .last .1 .0 }
 
   abbrev one-id : Words
-  one-id = record { count = got (read done) .stamp .id .count; words = c .grow .last .1 .1 .1 .0 }
+  one-id = record { count = got (read done) .stamp .id .count; words = c .grow .last .1 .1 .0 }
 
   not-long : isLong (take (got (read done) .stamp .id .count) (got (read done) .stamp .id .words)) ≡ false
-  not-long = let e = c .before .before .before .before in sym (e .before .is-long .ensures) ∙ e .if1 .left
+  not-long = sym (grows .before .is-long .ensures) ∙ grows .if1 .left
+
+  zero-is : zero-id ≡ wordsOf narrow (append false (strsIn (got (read done) .stamp .id)))
+  zero-is = grown-is (got (read done) .stamp .id) false _ (stored-names narrow (got (read done) .stamp) (lawful done) .1) not-long (c .grow .ensures .0)
+
+  one-is : one-id ≡ wordsOf narrow (append true (strsIn (got (read done) .stamp .id)))
+  one-is = grown-is (got (read done) .stamp .id) true _ (stored-names narrow (got (read done) .stamp) (lawful done) .1) not-long (c .grow .ensures .1)
 
   grown : (isStored narrow (record { update = got (read done) .stamp .update; id = zero-id }) ≡ true)
       × (isStored narrow (record { update = got (read done) .stamp .update; id = one-id }) ≡ true)
   grown =
       let g = start (read done) .args in
-      both-stored (g .stamp .now) (g .zero .now) (g .one .now) (got (read done)) (is-got (read done)) (done .enum-told .given .1) not-long zero-id one-id
-      (c .grow .ensures .0) (c .grow .ensures .1)
+      both-stored (g .stamp .now) (g .zero .now) (g .one .now) (got (read done)) (is-got (read done)) (done .enum-told .given .1) not-long zero-id one-id zero-is
+      one-is
 
   zero-inside : zero-id .count ≤ length (zero-id .words)
   zero-inside = lent-room (zero-id .count) (zero-id .words) (stored-names narrow (record { update = got (read done) .stamp .update; id = zero-id }) (grown .0) .1)
@@ -216,7 +241,7 @@ returns-3 c =
     let g = start r .args in
     let same = two _ _
     (sym (writes (g .stamp .now) (g .zero .now) (g .one .now) (got r) (is-got r) (t .enum-told .given .1) (not-long o) (zero-id o) (one-id o)
-    (o .grow .ensures .0) (o .grow .ensures .1))) in
+    (zero-is o) (one-is o))) in
     (w .write-both .ensures .0 ∙ same .0, w .write-both .ensures .1 ∙ same .1, w .write-both .ensures .2 ∙ same .2)
 
 pub fork-spec : {M : Type 1} → statement M
@@ -232,6 +257,8 @@ fork-spec =
     slice-aggregate-is-long
     is-long-requires
     returns-2
+    array-share-prefix-i-2
+    slice-aggregate-grow
     grow-requires
     array-share-prefix-u
     slice-aggregate-write-both

@@ -1,42 +1,34 @@
--- `calls::join` meets its contract: what the readers refuse is passed out, the first's before the second's, then what two stamps that meet are
--- refused for; of the join of two lawful stamps only 7 and 10 are left to refuse. Assumes nothing.
-use mathlib.Core.Path.{_≡_, refl, sym, ap, _∙_}
-use mathlib.Core.Bool.{Bool, true, false}
+-- `calls::join` meets its contract: what the readers refuse is passed out, the first's before the second's; two lawful stamps are then joined,
+-- and nothing but what that refuses is left to refuse. Assumes nothing.
+use mathlib.Core.Path.{_≡_, refl, sym, _∙_}
+use mathlib.Core.Bool.{true}
 use mathlib.Core.List.{List, [], _∷_}
-use Prim.Native.Nat.{ℕ}
+use Prim.Native.Nat.{ℕ, _≤_}
 use borrow.Author.Needs.{needs}
 use lib.Dec.{lit≤}
-use lib.ListN.{length}
+use lib.ListN.{length, take}
+use lib.Seq.{length-take-le}
 use Rattle.rules.specs.Limits.{narrow}
 use Rattle.rules.specs.Stamps.{Stamp, join}
-use Rattle.rules.specs.Stored.{held, isStored, unlawful}
-use Rattle.rules.specs.Refusals.{first, andThen, many, overlap, unseen}
+use Rattle.rules.specs.Stored.{strsIn, held, isStored}
+use Rattle.rules.specs.Refusals.{first, many, overlap, unseen}
 use Rattle.rules.specs.Values.{joined, meeting}
-use Rattle.rules.specs.Packed.{Wrote, readStamp, wrote, packedJoin}
+use Rattle.rules.specs.Packed.{readStamp, wrote, packedJoin}
 use Rattle.rules.specs.declared.Given.{Given}
 use Rattle.rules.specs.declared.Refusal.{Refusal}
-use Rattle.rules.specs.declared.Refusal.the-variants.{Unlawful, Many, Overlap, Unseen}
+use Rattle.rules.specs.declared.Refusal.the-variants.{Many, Overlap, Unseen}
+use Rattle.rules.specs.declared.Answer.{Answer}
 use Rattle.rules.specs.declared.Answer.the-variants.{Done, Refused}
 use Rattle.rules.specs.declared.Written.the-variants.{Refused as NotWritten}
 use Rattle.laws.proofs.Lawful.{lawful-join}
-use Rattle.laws.proofs.Stored.{stored-lawful, held-stored}
-use Rattle.names.proofs.Shape.{stored-full}
-use Rattle.stamps.proofs.Laws.{stored-names}
+use Rattle.laws.proofs.Stored.{stored-lawful, stored-not-unlawful, held-stored}
+use Rattle.layout.specs.Words.{stampOf}
+use Rattle.stamps.proofs.Laws.{stored-names, lent-room}
 use Rattle.reading.proofs.Lent.{givenBy, read-is}
 use Rattle.calls.specs.Joins.{wroteJoin}
-use Rattle.calls.proofs.Laws.{tells-same, tells-refused, read-stored}
+use Rattle.calls.proofs.Laws.{none-holds, tells-same, tells-refused, read-stored}
 use Rattle.calls.proofs.join.Statement.{statement}
 use Rattle.calls.proofs.join.Tie as tie
-
--- four tests and more: the more are asked where none of the four holds
-first-then : (a b c d : Bool) (more : List (Bool × Refusal))
-    → first ((a, Unlawful) ∷ (b, Unlawful) ∷ (c, Overlap) ∷ (d, Unseen) ∷ more) ≡ andThen (first ((a, Unlawful) ∷ (b, Unlawful) ∷ (c, Overlap) ∷ (d, Unseen) ∷ [])) (first more)
-unfolding first
-first-then true b c d more = refl
-first-then false true c d more = refl
-first-then false false true d more = refl
-first-then false false false true more = refl
-first-then false false false false more = refl
 
 module _ (s t l : List ℕ) (g : Given) (e : g ≡ readStamp narrow s) where
   first-refused : (r : Refusal) → g .answer ≡ Refused r → packedJoin narrow s t l ≡ record { answer = NotWritten r; out = l }
@@ -58,24 +50,31 @@ module _ (s t l : List ℕ) (g : Given) (e : g ≡ readStamp narrow s) where
       abbrev both : Stamp
       both = join (held (g .stamp)) (held (h .stamp))
 
-      -- what comes after the tests of two that meet
-      meeting-then : (more : List (Bool × Refusal)) → first (meeting narrow (g .stamp) (h .stamp) more) ≡ andThen (first (meeting narrow (g .stamp) (h .stamp) [])) (first more)
-      meeting-then more =
-          first-then (unlawful narrow (g .stamp)) (unlawful narrow (h .stamp)) (overlap (held (g .stamp)) (held (h .stamp))) (unseen (held (g .stamp)) (held (h .stamp))) more
+      -- what is left to refuse
+      abbrev tests : Answer
+      tests =
+          first
+          ((overlap (held (g .stamp)) (held (h .stamp)), Overlap) ∷ (unseen (held (g .stamp)) (held (h .stamp)), Unseen) ∷ (many narrow both, Many) ∷ [])
 
-      join-refused : (r : Refusal) → first (meeting narrow (g .stamp) (h .stamp) []) ≡ Refused r
-          → packedJoin narrow s t l ≡ record { answer = NotWritten r; out = l }
-      unfolding packedJoin wrote joined
-      join-refused r k = rw (sym e, sym f, p, q, meeting-then ((many narrow both, Many) ∷ []), k)
+      all-tests : first (meeting narrow (g .stamp) (h .stamp) ((many narrow both, Many) ∷ [])) ≡ tests
+      unfolding first
+      all-tests = rw (stored-not-unlawful narrow (g .stamp) one, stored-not-unlawful narrow (h .stamp) two)
 
-      writes : first (meeting narrow (g .stamp) (h .stamp) []) ≡ Done → wroteJoin (g .stamp) (h .stamp) l ≡ packedJoin narrow s t l
-      unfolding packedJoin wroteJoin joined first wrote
-      writes k = by (many narrow both) refl where
-        by : (b : Bool) → many narrow both ≡ b → wroteJoin (g .stamp) (h .stamp) l ≡ packedJoin narrow s t l
-        by true m = rw (sym e, sym f, p, q, meeting-then ((many narrow both, Many) ∷ []), k, m)
-        by false m =
-            let z = lawful-join narrow (held (g .stamp)) (held (h .stamp)) (stored-lawful narrow (g .stamp) one) (stored-lawful narrow (h .stamp) two) m in
-            rw (sym e, sym f, p, q, meeting-then ((many narrow both, Many) ∷ []), k, m, held-stored narrow (lit≤ tt) both z)
+      writes-held : wroteJoin (held (g .stamp)) (held (h .stamp)) l ≡ packedJoin narrow s t l
+      unfolding packedJoin wroteJoin joined wrote
+      writes-held = by tests refl where
+        by : (x : Answer) → tests ≡ x → wroteJoin (held (g .stamp)) (held (h .stamp)) l ≡ packedJoin narrow s t l
+        by (Refused r) m = rw (sym e, sym f, p, q, all-tests, m)
+        by Done m =
+            let few = none-holds (many narrow both) Many [] (none-holds (unseen (held (g .stamp)) (held (h .stamp))) Unseen _ (none-holds (overlap (held (g .stamp)) (held (h .stamp))) Overlap _ m .1) .1) .0 in
+            let z = lawful-join narrow (held (g .stamp)) (held (h .stamp)) (stored-lawful narrow (g .stamp) one) (stored-lawful narrow (h .stamp) two) few in
+            rw (sym e, sym f, p, q, all-tests, m, held-stored narrow (lit≤ tt) both z)
+
+      writes : wroteJoin (stampOf (take (g .stamp .update .count) (g .stamp .update .words)) (take (g .stamp .id .count) (g .stamp .id .words)))
+          (stampOf (take (h .stamp .update .count) (h .stamp .update .words)) (take (h .stamp .id .count) (h .stamp .id .words))) l
+          ≡ packedJoin narrow s t l
+      unfolding held strsIn
+      writes = writes-held
 
 -- what was read, by value
 module _ (c : tie.After-read-in) where
@@ -112,18 +111,18 @@ module _ (c : tie.After-enum-told3) where
   lawful2 : isStored narrow (got2 twice .stamp) ≡ true
   lawful2 = read-stored narrow (lit≤ tt) (start (done twice) .args .second .now) (got2 twice) (is-got2 twice) (c .enum-told3 .given .1)
 
-  -- a record has so many words
-  u-full : 16 ≡ length (got (done twice) .stamp .update .words)
-  u-full = sym (stored-full narrow _ (stored-names narrow (got (done twice) .stamp) lawful .0))
+  -- and their names have no more strings than words are lent
+  k-inside : got (done twice) .stamp .update .count ≤ length (got (done twice) .stamp .update .words)
+  k-inside = lent-room _ _ (stored-names narrow (got (done twice) .stamp) lawful .0)
 
-  i-full : 16 ≡ length (got (done twice) .stamp .id .words)
-  i-full = sym (stored-full narrow _ (stored-names narrow (got (done twice) .stamp) lawful .1))
+  l-inside : got (done twice) .stamp .id .count ≤ length (got (done twice) .stamp .id .words)
+  l-inside = lent-room _ _ (stored-names narrow (got (done twice) .stamp) lawful .1)
 
-  v-full : 16 ≡ length (got2 twice .stamp .update .words)
-  v-full = sym (stored-full narrow _ (stored-names narrow (got2 twice .stamp) lawful2 .0))
+  m-inside : got2 twice .stamp .update .count ≤ length (got2 twice .stamp .update .words)
+  m-inside = lent-room _ _ (stored-names narrow (got2 twice .stamp) lawful2 .0)
 
-  j-full : 16 ≡ length (got2 twice .stamp .id .words)
-  j-full = sym (stored-full narrow _ (stored-names narrow (got2 twice .stamp) lawful2 .1))
+  n-inside : got2 twice .stamp .id .count ≤ length (got2 twice .stamp .id .words)
+  n-inside = lent-room _ _ (stored-names narrow (got2 twice .stamp) lawful2 .1)
 
 read-in-requires : tie.Need-read-in-requires
 read-in-requires c κs = search needs
@@ -166,80 +165,50 @@ returns-2 c =
     tells-refused _ _ _ (q .read-in2 .result .answer) _ (c .refused2 .ensures) no
     (second-refused (g .first .now) (g .second .now) (g .out .now) (got r) (is-got r) (once q .enum-told .given .1) (got2 q) (is-got2 q) _ no)
 
-slice-aggregate-met : tie.Need-slice-aggregate-met
-slice-aggregate-met c = u-full (c .before)
-
-slice-aggregate-met-2 : tie.Need-slice-aggregate-met-2
-slice-aggregate-met-2 c = i-full (c .before .before)
-
-slice-aggregate-met-3 : tie.Need-slice-aggregate-met-3
-slice-aggregate-met-3 c = v-full (c .before .before .before)
-
-slice-aggregate-met-4 : tie.Need-slice-aggregate-met-4
-slice-aggregate-met-4 c = j-full (c .before .before .before .before)
-
-met-requires : tie.Need-met-requires
-met-requires c κs = let b = c .before .before .before .before in (lawful b, lawful2 b)
-
-enum-told-5 : tie.Need-enum-told-5
-enum-told-5 c = search needs
-
-enum-told-6 : tie.Need-enum-told-6
-enum-told-6 c = search needs
-
-refused-requires-3 : tie.Need-refused-requires-3
-refused-requires-3 c κs = search needs
-
-returns-3 : tie.Need-returns-3
-returns-3 c =
-    let m = c .before .before .before in
-    let b = m .before .before .before .before .before in
-    let q = twice b in
-    let r = done q in
-    let g = start r .args in
-    let no = c .before .enum-told6 .given .1 in
-    tells-refused _ _ _ (m .met .result) _ (c .refused3 .ensures) no
-    (join-refused (g .first .now) (g .second .now) (g .out .now) (got r) (is-got r) (once q .enum-told .given .1) (got2 q) (is-got2 q) (b .enum-told3 .given .1) _
-    (sym (m .met .ensures) ∙ no))
-
--- where the two may meet
-module _ (c : tie.After-enum-told5) where
-  abbrev both-of : tie.After-enum-told3
-  both-of = c .before .before .before .before .before .before .before
+array-share-prefix-u : tie.Need-array-share-prefix-u
+array-share-prefix-u c = k-inside c
 
 slice-aggregate-write-joined : tie.Need-slice-aggregate-write-joined
-slice-aggregate-write-joined c = u-full (both-of (c .before))
+slice-aggregate-write-joined c = sym (length-take-le _ _ (k-inside (c .before)))
+
+array-share-prefix-i : tie.Need-array-share-prefix-i
+array-share-prefix-i c = l-inside (c .before)
 
 slice-aggregate-write-joined-2 : tie.Need-slice-aggregate-write-joined-2
-slice-aggregate-write-joined-2 c = i-full (both-of (c .before .before))
+slice-aggregate-write-joined-2 c = sym (length-take-le _ _ (l-inside (c .before .before)))
+
+array-share-prefix-v : tie.Need-array-share-prefix-v
+array-share-prefix-v c = m-inside (c .before .before)
 
 slice-aggregate-write-joined-3 : tie.Need-slice-aggregate-write-joined-3
-slice-aggregate-write-joined-3 c = v-full (both-of (c .before .before .before))
+slice-aggregate-write-joined-3 c = sym (length-take-le _ _ (m-inside (c .before .before .before)))
+
+array-share-prefix-j : tie.Need-array-share-prefix-j
+array-share-prefix-j c = n-inside (c .before .before .before)
 
 slice-aggregate-write-joined-4 : tie.Need-slice-aggregate-write-joined-4
-slice-aggregate-write-joined-4 c = j-full (both-of (c .before .before .before .before))
+slice-aggregate-write-joined-4 c = sym (length-take-le _ _ (n-inside (c .before .before .before .before)))
 
 write-joined-requires : tie.Need-write-joined-requires
 write-joined-requires c κs =
-    let m = c .before .before .before .before .before .before .before in
-    let b = m .before .before .before .before .before in
-    (lawful b, lawful2 b)
+    let b = c .before .before .before .before .before in
+    let q = twice b in (
+      record { of = got (done q) .stamp; stored = lawful b; update = refl; id = refl },
+      record { of = got2 q .stamp; stored = lawful2 b; update = refl; id = refl },
+    )
 
 same-length : tie.Need-same-length
 same-length c = search needs
 
-returns-4 : tie.Need-returns-4
-returns-4 c =
+returns-3 : tie.Need-returns-3
+returns-3 c =
     let w = c .before .before in
-    let d = w .before .before .before .before .before .before in
-    let m = d .before .before in
-    let b = m .before .before .before .before .before in
+    let b = w .before .before .before .before .before .before in
     let q = twice b in
     let r = done q in
     let g = start r .args in
     tells-same _ _ _ _
-    (writes (g .first .now) (g .second .now) (g .out .now) (got r) (is-got r) (once q .enum-told .given .1) (got2 q) (is-got2 q) (b .enum-told3 .given .1)
-    (sym (m .met .ensures) ∙ d .enum-told5 .given .1))
+    (writes (g .first .now) (g .second .now) (g .out .now) (got r) (is-got r) (once q .enum-told .given .1) (got2 q) (is-got2 q) (b .enum-told3 .given .1))
     (w .write-joined .ensures)
 
 pub join-spec : {M : Type 1} → statement M
@@ -256,19 +225,14 @@ join-spec =
     enum-told-4
     refused-requires-2
     returns-2
-    slice-aggregate-met
-    slice-aggregate-met-2
-    slice-aggregate-met-3
-    slice-aggregate-met-4
-    met-requires
-    enum-told-5
-    enum-told-6
-    refused-requires-3
-    returns-3
+    array-share-prefix-u
     slice-aggregate-write-joined
+    array-share-prefix-i
     slice-aggregate-write-joined-2
+    array-share-prefix-v
     slice-aggregate-write-joined-3
+    array-share-prefix-j
     slice-aggregate-write-joined-4
     write-joined-requires
     same-length
-    returns-4)
+    returns-3)

@@ -3,32 +3,30 @@
 use borrow.Author.Needs.{needs}
 use mathlib.Core.Path.{_≡_, refl, sym, ap, _∙_}
 use mathlib.Core.List.{List}
-use Prim.Native.Nat.{ℕ, _+_, _*_, _-_, _≤_}
+use Prim.Native.Nat.{ℕ, _+_, _*_, _-_, _/_, _≤_}
 use native.Mathlib.Omega.{arith}
 use lib.ListN.{length, getD}
+use Rattle.lines.specs.declared.Printed.{Printed}
 use Rattle.lines.specs.Answers.{answerText}
 use Rattle.lines.specs.Inner.{PutAt}
 use Rattle.lines.proofs.Texts.{answer-room}
-use Rattle.lines.proofs.Turns.{writes, writes-then, writes-all, writes-none, writes-short, writes-end, answersFrom, answers-more}
+use Rattle.lines.proofs.Turns.{writes, writes-then, writes-all, writes-short, writes-end, answersFrom, answers-more}
 use Rattle.lines.proofs.print.Statement.{statement}
 use Rattle.lines.proofs.print.Tie as tie
 
 abbrev Inv-loop : tie.InvT-loop
-Inv-loop commands count out₀ at₀ k₀ out at k =
-    (k ≤ count) × (at ≤ 11 * k) × (length out ≡ length out₀)
+Inv-loop commands out₀ count at₀ k₀ out at k =
+    (count ≡ length commands / 3) × (k ≤ count) × (at ≤ 11 * k) × (length out ≡ length out₀)
     × (writes (answersFrom commands count k) out at ≡ writes (answersFrom commands count 0) out₀ 0)
 
 abbrev μ-loop : tie.MeasureT-loop
-μ-loop commands count out₀ at₀ k₀ out at k = count - k
+μ-loop commands out₀ count at₀ k₀ out at k = count - k
 
 returns : tie.Need-returns Inv-loop μ-loop
-returns c = let g = c .before .before .before .args in writes-none (g .commands .now) (g .out .now) (g .count) (omega arith)
-
-returns-2 : tie.Need-returns-2 Inv-loop μ-loop
-returns-2 c = let g = c .before .before .before .before .args in writes-short (g .commands .now) (g .out .now) (g .count) (omega arith) (omega arith)
+returns c = let g = c .before .before .before .args in writes-short (g .commands .now) (g .out .now) (omega (arith, c .if1 .taken))
 
 loop-holds : tie.Need-loop-holds Inv-loop μ-loop
-loop-holds c = (search needs, search needs, refl, refl)
+loop-holds c = (refl, search needs, search needs, refl, refl)
 
 mul-i : tie.Need-mul-i Inv-loop μ-loop
 mul-i c = search needs
@@ -61,31 +59,32 @@ loop-again : tie.Need-loop-again Inv-loop μ-loop
 loop-again c =
     let p = c .before .before in
     let l = p .before .before .before .before .before in
-    let g = l .before .before .before .before .before .args in
+    let g = l .before .before .before .before .args in
     let k = l .loop .k in
+    let n = length (g .commands .now) / 3 in
     let op = getD (g .commands .now) (3 * k) 0 in
     let code = getD (g .commands .now) (3 * k + 1) 0 in
     let put : PutAt (l .loop .out) (l .loop .at) (answerText op code) (p .put-answer .result) (p .put-answer .last .0) = p .put-answer .ensures in (
+      refl,
       search needs,
       omega (arith, answer-room op code, put .place),
       search needs,
-      sym (writes-then _ (answersFrom (g .commands .now) (g .count) (k + 1))
-          (l .loop .out) (l .loop .at) (p .put-answer .result) (p .put-answer .last .0) put)
-          ∙ (rw (answers-more (g .commands .now) (g .count) k (omega arith)) at (l .loop .inv .3)),
+      sym (writes-then _ (answersFrom (g .commands .now) n (k + 1)) (l .loop .out) (l .loop .at) (p .put-answer .result) (p .put-answer .last .0) put)
+          ∙ (rw (answers-more (g .commands .now) n k (omega arith)) at (l .loop .inv .4)),
     )
 
 same-length : tie.Need-same-length Inv-loop μ-loop
 same-length c = search needs
 
-returns-3 : tie.Need-returns-3 Inv-loop μ-loop
-returns-3 c =
+returns-2 : tie.Need-returns-2 Inv-loop μ-loop
+returns-2 c =
     let l = c .before in
-    let g = l .before .before .before .before .before .args in
+    let g = l .before .before .before .before .args in
     let all =
-    sym (writes-end (g .commands .now) (l .loop .out) (g .count) (l .loop .k) (l .loop .at) (omega arith))
-    ∙ l .loop .inv .3
-    ∙ writes-all (g .commands .now) (g .out .now) (g .count) (omega arith) (omega arith) in
-    (ap (λ (r : ℕ × List ℕ). r .0) all, ap (λ (r : ℕ × List ℕ). r .1) all)
+    sym (writes-end (g .commands .now) (l .loop .out) (length (g .commands .now) / 3) (l .loop .k) (l .loop .at) (omega arith))
+    ∙ l .loop .inv .4
+    ∙ writes-all (g .commands .now) (g .out .now) (omega arith) in
+    (ap (λ (r : Printed × List ℕ). r .0) all, ap (λ (r : Printed × List ℕ). r .1) all)
 
 pub print-spec : {M : Type 1} → statement M
 print-spec =
@@ -94,7 +93,6 @@ print-spec =
     Inv-loop
     μ-loop
     returns
-    returns-2
     loop-holds
     mul-i
     mul-put-answer
@@ -107,4 +105,4 @@ print-spec =
     loop-less
     loop-again
     same-length
-    returns-3)
+    returns-2)

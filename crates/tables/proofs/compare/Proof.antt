@@ -2,10 +2,8 @@
 use Rattle.frames.proofs.Walk.{_≡_, refl, _∙_, true, false, [], _∷_, ℕ, eqb, length, getD, URA, Heap, Tables, Atoms, fmOf, givenOf, tables, tablesOf, Given}
 use Rattle.frames.proofs.Walk.{_$_, !, by}
 use Rattle.frames.proofs.Walk.{look, and-then, no-more, returns-within, lit, of-opd, bin, returns, Triple, entered, cited, ifs, var, piece, sets, leaves}
-use Rattle.frames.proofs.Walk.{number, Ins, Gives, calls-by, fetch, Tells, Look, looks}
-use Rattle.rules.specs.Limits.{narrow}
-use Rattle.rules.specs.Packed.{comparedNumber}
-use Rattle.rules.specs.Tables.{compareAt, outside}
+use Rattle.frames.proofs.Walk.{number, Ins, Gives, calls-by, fetch, Tells, Look, looks-as, now, factI, emp}
+use Rattle.rules.specs.Tables.{outside}
 use Rattle.rules.specs.declared.Record.{Record}
 use Rattle.slots.specs.Gates.{gateCode}
 use Rattle.slots.specs.Rules.{compareRule}
@@ -16,6 +14,7 @@ use Rattle.slots.proofs.gate.Symbol as gate-def
 use Rattle.slots.proofs.gate.Met as gate-thm
 use Rattle.slots.proofs.compare_rule.Symbol as rule-def
 use Rattle.slots.proofs.compare_rule.Met as rule-thm
+use Rattle.tables.proofs.compare as claim
 use Rattle.tables.proofs.compare.Key.{name as #compare}
 use Rattle.tables.proofs.compare.Statement as stated
 use Rattle.tables.proofs.compare.Code as code
@@ -24,7 +23,7 @@ abbrev ruleOf : Ins 0 tt (number ∷ number ∷ item ∷ item ∷ []) → ℕ
 ruleOf a = compareRule (a .0) (a .1 .0) (a .1 .1 .0) (a .1 .1 .1 .0)
 
 abbrev said : Tells item (number ∷ number ∷ []) number
-said κs ys a r = r ≡ comparedNumber (compareAt narrow ys (a .0) (a .1 .0))
+said κs ys a r = r ≡ compareCode ys (a .0) (a .1 .0)
 
 module _ {M : Type 1} (𝓤 : URA M) (H : Heap 𝓤) (A : Atoms 𝓤) (W : Given 𝓤 H A) (𝓣 : Tables 𝓤 H)
     (known-gate : Triple 𝓤 (𝓣 .C gate-def.name) (Gives 𝓤 H A (number ∷ number ∷ number ∷ []) number gateOf))
@@ -45,16 +44,18 @@ module _ {M : Type 1} (𝓤 : URA M) (H : Heap 𝓤) (A : Atoms 𝓤) (W : Given
       (good .0, (good .1 .0, (isi, (isj, tt))))
       (and-then ! (var ! refl) (and-then ! (var ! refl) (and-then ! (var ! refl) (and-then ! (var ! refl) (no-more !))))) refl refl (λ is.
       returns-within ! Post refl (look ! 0 refl) $ leaves ! refl refl $
-      let p : compareRule i j ei ej ≡ compareCode ys i j = simp e in by ! (shuts (compareRule i j ei ej) (p ∙ compare-tied ys i j) is)))))
+      let p : compareRule i j ei ej ≡ compareCode ys i j = simp e in by ! (shuts (compareRule i j ei ej) p is)))))
       (λ no. let e : eqb g 0 ≡ false = holds-false (eqb g 0) no in
       sets ! (of-opd ! (var ! refl)) refl (tt, record { fits = ig .1 }) $ returns ! (look ! 0 refl) $ leaves ! refl refl $
-      let p : g ≡ compareCode ys i j = simp e in by ! (shuts g (p ∙ compare-tied ys i j) ig)))
+      let p : g ≡ compareCode ys i j = simp e in by ! (shuts g p ig)))
 
 pub compare-spec : {M : Type 1} → stated.statement M
 unfolding code.routine tablesOf
 compare-spec 𝓤 H 𝓜 𝓖 𝓡 =
     entered 𝓤 H _ (tables 𝓤 H 𝓜 𝓡 code.env .C) (tables 𝓤 H 𝓜 𝓡 code.env .Λ) #compare code.function (code.unfolded 𝓤 H 𝓜 𝓡)
-    (looks item (number ∷ number ∷ []) number 𝓤 H (𝓖 .A) said (givenOf 𝓤 H 𝓜 𝓖) (tablesOf 𝓤 H 𝓜 (tables 𝓤 H 𝓜 𝓡 code.env)) code.function _ refl
+    (looks-as item (number ∷ number ∷ []) number 𝓤 H (𝓖 .A) (givenOf 𝓤 H 𝓜 𝓖) (tablesOf 𝓤 H 𝓜 (tables 𝓤 H 𝓜 𝓡 code.env)) code.function _ said refl
     (walk 𝓤 H (𝓖 .A) (givenOf 𝓤 H 𝓜 𝓖) (tablesOf 𝓤 H 𝓜 (tables 𝓤 H 𝓜 𝓡 code.env))
     (cited 𝓤 H _ 𝓜 𝓡 code.env gate-def.name gate-def.routine code.calls-slots·gate (gate-thm.met 𝓤 H 𝓜 𝓖 𝓡))
-    (cited 𝓤 H _ 𝓜 𝓡 code.env rule-def.name rule-def.routine code.calls-slots·compare-rule (rule-thm.met 𝓤 H 𝓜 𝓖 𝓡))))
+    (cited 𝓤 H _ 𝓜 𝓡 code.env rule-def.name rule-def.routine code.calls-slots·compare-rule (rule-thm.met 𝓤 H 𝓜 𝓖 𝓡)))
+    (λ κs a. claim.clauses 𝓤 H (𝓖 .A) (𝓜 .mem) (𝓡 .run) κs a .ensures)
+    (λ κs a r e h. factI 𝓤 _ (emp 𝓤) (h ∙ compare-tied (now (a .0)) (a .1 .0) (a .1 .1 .0))))

@@ -1,10 +1,8 @@
 -- `tables::fork` meets its contract: a walk of its MIR, which hands the run on twice: as a `&` to the search, as a `&mut` to the fork. Assumes nothing.
 use Rattle.frames.proofs.Walk.{_≡_, refl, ap, _∙_, [], _∷_, ℕ, URA, fullShare, Heap, Tables, Atoms, fmOf, givenOf, tables, tablesOf, Given, _$_, !, by, look}
 use Rattle.frames.proofs.Walk.{and-then, no-more, returns, Triple, entered, cited}
-use Rattle.frames.proofs.Walk.{relends, leaves, number, Says, Walk, lends, Tells, var₂, Changes}
+use Rattle.frames.proofs.Walk.{relends, leaves, number, Says, Walk, lends-as, now, factI, emp, Tells, var₂, Changes}
 use Rattle.frames.proofs.Walk.{hands, Answers, asks}
-use Rattle.rules.specs.Limits.{narrow}
-use Rattle.rules.specs.Tables.{slotNumber, forkAt}
 use Rattle.tables.specs.Forks.{forkCode, forkList}
 use Rattle.tables.proofs.Tied.{forkSlot, fork-tied}
 use Rattle.tables.proofs.Slots.{item}
@@ -12,12 +10,13 @@ use Rattle.tables.proofs.lowest_absent.Symbol as pass-def
 use Rattle.tables.proofs.lowest_absent.Met as pass-thm
 use Rattle.tables.proofs.fork_at.Symbol as half-def
 use Rattle.tables.proofs.fork_at.Met as half-thm
+use Rattle.tables.proofs.fork as claim
 use Rattle.tables.proofs.fork.Key.{name as #fork}
 use Rattle.tables.proofs.fork.Statement as stated
 use Rattle.tables.proofs.fork.Code as code
 
 abbrev said : Says item (number ∷ []) number
-said κs ys a r zs = (r ≡ slotNumber (forkAt narrow ys (a .0) .answer)) × (zs ≡ forkAt narrow ys (a .0) .table)
+said κs ys a r zs = (r ≡ forkCode ys (a .0) (forkSlot ys (a .0))) × (zs ≡ forkList ys (a .0) (forkSlot ys (a .0)))
 
 abbrev found : Tells item (number ∷ []) number
 found κs ys a r = r ≡ forkSlot ys (a .0)
@@ -39,17 +38,15 @@ module _ {M : Type 1} (𝓤 : URA M) (H : Heap 𝓤) (A : Atoms 𝓤) (W : Given
       hands ! fm item (number ∷ number ∷ []) number forked known-half ys b o gn 9 refl (λ _. (i, (j, tt))) (λ _. (good .0, (is, tt)))
       (λ _ _ _. and-then ! (var₂ ! refl) (and-then ! (var₂ ! refl) (and-then ! (var₂ ! refl) (no-more !)))) refl (λ _. refl) (λ _ r zs same done is′.
       returns ! (look ! 0 refl) $ leaves ! refl refl $ by !
-      (closes zs r same (
-        done .0 ∙ ap (λ (n : ℕ). forkCode ys i n) at ∙ fork-tied ys i .0,
-        done .1 ∙ ap (λ (n : ℕ). forkList ys i n) at ∙ fork-tied ys i
-            .1,
-      ) is′)))
+      (closes zs r same (done .0 ∙ ap (λ (n : ℕ). forkCode ys i n) at, done .1 ∙ ap (λ (n : ℕ). forkList ys i n) at) is′)))
 
 pub fork-spec : {M : Type 1} → stated.statement M
 unfolding code.routine tablesOf
 fork-spec 𝓤 H 𝓜 𝓖 𝓡 =
     entered 𝓤 H _ (tables 𝓤 H 𝓜 𝓡 code.env .C) (tables 𝓤 H 𝓜 𝓡 code.env .Λ) #fork code.function (code.unfolded 𝓤 H 𝓜 𝓡)
-    (lends item (number ∷ []) number 𝓤 H (𝓖 .A) said (givenOf 𝓤 H 𝓜 𝓖) (tablesOf 𝓤 H 𝓜 (tables 𝓤 H 𝓜 𝓡 code.env)) code.function _ refl
+    (lends-as item (number ∷ []) number 𝓤 H (𝓖 .A) (givenOf 𝓤 H 𝓜 𝓖) (tablesOf 𝓤 H 𝓜 (tables 𝓤 H 𝓜 𝓡 code.env)) code.function _ said refl
     (walk 𝓤 H (𝓖 .A) (givenOf 𝓤 H 𝓜 𝓖) (tablesOf 𝓤 H 𝓜 (tables 𝓤 H 𝓜 𝓡 code.env))
     (cited 𝓤 H _ 𝓜 𝓡 code.env pass-def.name pass-def.routine code.calls-tables·lowest-absent (pass-thm.met 𝓤 H 𝓜 𝓖 𝓡))
-    (cited 𝓤 H _ 𝓜 𝓡 code.env half-def.name half-def.routine code.calls-tables·fork-at (half-thm.met 𝓤 H 𝓜 𝓖 𝓡))))
+    (cited 𝓤 H _ 𝓜 𝓡 code.env half-def.name half-def.routine code.calls-tables·fork-at (half-thm.met 𝓤 H 𝓜 𝓖 𝓡)))
+    (λ κs a. claim.clauses 𝓤 H (𝓖 .A) (𝓜 .mem) (𝓡 .run) κs a .ensures)
+    (λ κs a r e h. factI 𝓤 _ (emp 𝓤) (h .0 ∙ fork-tied (now (a .0)) (a .1 .0) .0, h .1 ∙ fork-tied (now (a .0)) (a .1 .0) .1)))

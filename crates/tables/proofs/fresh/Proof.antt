@@ -4,11 +4,9 @@ use Rattle.frames.proofs.Walk.{_+_, _-_, _^_, ltb, lit<, arith, ltb-true, ltb-f
 use Rattle.frames.proofs.Walk.{URA, fullShare, Heap, Tables, Atoms, SProp, Fml, fmOf, givenOf, tables, tablesOf, Given, ‵, Sq, runs, atRet, rewrite, done, _$_}
 use Rattle.frames.proofs.Walk.{ !, by, row, Room, look, and-then, no-more, lit, of-opd, bin, returns}
 use Rattle.frames.proofs.Walk.{Triple, entered, cited, Blocks, envOf, deaths, frame-of, var, piece, sets, leaves, number, Ins, Gives, calls-by, puts, Says}
-use Rattle.frames.proofs.Walk.{Closes, Walk, lends, Loop, Turn, whiles, tests, sets-last, turns-to, forgets}
+use Rattle.frames.proofs.Walk.{Closes, Walk, lends-as, now, factI, emp, Loop, Turn, whiles, tests, sets-last, turns-to, forgets}
 use contract.Lifetimes.{Lfts}
 use denote.Slice.{sliceVal}
-use Rattle.rules.specs.Limits.{narrow}
-use Rattle.rules.specs.Tables.{slotNumber, makeFresh}
 use Rattle.rules.specs.declared.Record.{Record}
 use Rattle.rules.proofs.Record as T
 use Rattle.slots.specs.Gates.{gateCode, roomOf, freshSlot}
@@ -21,12 +19,13 @@ use Rattle.slots.proofs.gate.Symbol as gate-def
 use Rattle.slots.proofs.gate.Met as gate-thm
 use Rattle.slots.proofs.fresh_slot.Symbol as slot-def
 use Rattle.slots.proofs.fresh_slot.Met as slot-thm
+use Rattle.tables.proofs.fresh as claim
 use Rattle.tables.proofs.fresh.Key.{name as #fresh}
 use Rattle.tables.proofs.fresh.Statement as stated
 use Rattle.tables.proofs.fresh.Code as code
 
 abbrev said : Says item [] number
-said κs ys a r zs = (r ≡ slotNumber (makeFresh narrow ys .answer)) × (zs ≡ makeFresh narrow ys .table)
+said κs ys a r zs = (r ≡ gateCode (length ys) 0 0) × (zs ≡ filledTo (roomOf (length ys)) ys)
 
 -- where the loop stands: so many slots are filled, of m
 record At (m : ℕ) : Type 0 where
@@ -81,7 +80,7 @@ module _ {M : Type 1} (𝓤 : URA M) (H : Heap 𝓤) (A : Atoms 𝓤) (W : Given
         ((refl, gn .0), ((refl, lit< tt), ((refl, lit< tt), tt)))
         (and-then ! (var ! refl) (and-then ! (lit ! tt) (and-then ! (lit ! tt) (no-more !)))) refl refl (λ ig.
         returns ! (look ! 0 refl) $ leaves ! refl refl $ by ! (closes zs (gateCode (length ys) 0 0) (filled-length (t .i) ys)
-        (fresh-is ys .0, ap (λ (k : ℕ). filledTo k ys) e ∙ fresh-is ys .1) ig)))
+        (refl, ap (λ (k : ℕ). filledTo k ys) e) ig)))
 
   walk : Walk item [] number 𝓤 H A said W 𝓣 code.function
   unfolding filledTo
@@ -97,8 +96,10 @@ pub fresh-spec : {M : Type 1} → stated.statement M
 unfolding code.routine tablesOf
 fresh-spec 𝓤 H 𝓜 𝓖 𝓡 =
     entered 𝓤 H _ (tables 𝓤 H 𝓜 𝓡 code.env .C) (tables 𝓤 H 𝓜 𝓡 code.env .Λ) #fresh code.function (code.unfolded 𝓤 H 𝓜 𝓡)
-    (lends item [] number 𝓤 H (𝓖 .A) said (givenOf 𝓤 H 𝓜 𝓖) (tablesOf 𝓤 H 𝓜 (tables 𝓤 H 𝓜 𝓡 code.env)) code.function _ refl
+    (lends-as item [] number 𝓤 H (𝓖 .A) (givenOf 𝓤 H 𝓜 𝓖) (tablesOf 𝓤 H 𝓜 (tables 𝓤 H 𝓜 𝓡 code.env)) code.function _ said refl
     (walk 𝓤 H (𝓖 .A) (givenOf 𝓤 H 𝓜 𝓖) (tablesOf 𝓤 H 𝓜 (tables 𝓤 H 𝓜 𝓡 code.env))
     (cited 𝓤 H _ 𝓜 𝓡 code.env room-def.name room-def.routine code.calls-slots·room (room-thm.met 𝓤 H 𝓜 𝓖 𝓡))
     (cited 𝓤 H _ 𝓜 𝓡 code.env slot-def.name slot-def.routine code.calls-slots·fresh-slot (slot-thm.met 𝓤 H 𝓜 𝓖 𝓡))
-    (cited 𝓤 H _ 𝓜 𝓡 code.env gate-def.name gate-def.routine code.calls-slots·gate (gate-thm.met 𝓤 H 𝓜 𝓖 𝓡))))
+    (cited 𝓤 H _ 𝓜 𝓡 code.env gate-def.name gate-def.routine code.calls-slots·gate (gate-thm.met 𝓤 H 𝓜 𝓖 𝓡)))
+    (λ κs a. claim.clauses 𝓤 H (𝓖 .A) (𝓜 .mem) (𝓡 .run) κs a .ensures)
+    (λ κs a r e h. factI 𝓤 _ (emp 𝓤) (h .0 ∙ fresh-is (now (a .0)) .0, h .1 ∙ fresh-is (now (a .0)) .1)))

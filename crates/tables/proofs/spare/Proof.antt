@@ -2,10 +2,9 @@
 -- Assumes nothing.
 use Rattle.frames.proofs.Walk.{_≡_, refl, _∙_, true, false, [], _∷_, ℕ, eqb, length, getD, URA, Heap, Tables, Atoms, fmOf, givenOf, tables, tablesOf, Given}
 use Rattle.frames.proofs.Walk.{_$_, !, by, look, and-then, no-more, returns-within, lit, of-opd, bin, returns}
-use Rattle.frames.proofs.Walk.{Triple, entered, cited, ifs, var, piece, sets, leaves, number, Ins, Gives, calls-by, fetch, Tells, Look, looks, var₂, Answers}
-use Rattle.frames.proofs.Walk.{asks}
-use Rattle.rules.specs.Limits.{narrow}
-use Rattle.rules.specs.Tables.{spareAt, sparedNumber, outside}
+use Rattle.frames.proofs.Walk.{Triple, entered, cited, ifs, var, piece, sets, leaves, number, Ins, Gives, calls-by, fetch, Tells, Look, var₂, Answers, asks}
+use Rattle.frames.proofs.Walk.{looks-as, now, factI, emp}
+use Rattle.rules.specs.Tables.{outside}
 use Rattle.rules.specs.declared.Record.{Record}
 use Rattle.slots.specs.Gates.{gateCode}
 use Rattle.slots.specs.Scans.{foundOr, weighOf, weighStart}
@@ -20,6 +19,7 @@ use Rattle.slots.proofs.weigh_start.Symbol as start-def
 use Rattle.slots.proofs.weigh_start.Met as start-thm
 use Rattle.tables.proofs.weigh_all.Symbol as pass-def
 use Rattle.tables.proofs.weigh_all.Met as pass-thm
+use Rattle.tables.proofs.spare as claim
 use Rattle.tables.proofs.spare.Key.{name as #spare}
 use Rattle.tables.proofs.spare.Statement as stated
 use Rattle.tables.proofs.spare.Code as code
@@ -31,7 +31,7 @@ abbrev found : Tells item (scan ∷ []) number
 found κs ys a r = r ≡ foundOr (scanOf (weighOf (a .0)) (a .0 .from) ys) 0
 
 abbrev said : Tells item (number ∷ []) number
-said κs ys a r = r ≡ sparedNumber (spareAt narrow ys (a .0))
+said κs ys a r = r ≡ spareCode ys (a .0)
 
 module _ {M : Type 1} (𝓤 : URA M) (H : Heap 𝓤) (A : Atoms 𝓤) (W : Given 𝓤 H A) (𝓣 : Tables 𝓤 H)
     (known-gate : Triple 𝓤 (𝓣 .C gate-def.name) (Gives 𝓤 H A (number ∷ number ∷ number ∷ []) number gateOf))
@@ -53,17 +53,19 @@ module _ {M : Type 1} (𝓤 : URA M) (H : Heap 𝓤) (A : Atoms 𝓤) (W : Given
       (λ _ _ _. and-then ! (var₂ ! refl) (and-then ! (var₂ ! refl) (no-more !))) refl refl (λ _ r at is′.
       returns-within ! Post refl (look ! 0 refl) $ leaves ! refl refl $
       let p : foundOr (scanOf (weighOf (weighStart i ei)) (weighStart i ei .from) ys) 0 ≡ spareCode ys i = simp e in
-      by ! (shuts r (at ∙ p ∙ spare-tied ys i) is′)))))
+      by ! (shuts r (at ∙ p) is′)))))
       (λ no. let e : eqb g 0 ≡ false = holds-false (eqb g 0) no in
       sets ! (of-opd ! (var ! refl)) refl (tt, record { fits = ig .1 }) $ returns ! (look ! 0 refl) $ leaves ! refl refl $
-      let p : g ≡ spareCode ys i = simp e in by ! (shuts g (p ∙ spare-tied ys i) ig)))
+      let p : g ≡ spareCode ys i = simp e in by ! (shuts g p ig)))
 
 pub spare-spec : {M : Type 1} → stated.statement M
 unfolding code.routine tablesOf
 spare-spec 𝓤 H 𝓜 𝓖 𝓡 =
     entered 𝓤 H _ (tables 𝓤 H 𝓜 𝓡 code.env .C) (tables 𝓤 H 𝓜 𝓡 code.env .Λ) #spare code.function (code.unfolded 𝓤 H 𝓜 𝓡)
-    (looks item (number ∷ []) number 𝓤 H (𝓖 .A) said (givenOf 𝓤 H 𝓜 𝓖) (tablesOf 𝓤 H 𝓜 (tables 𝓤 H 𝓜 𝓡 code.env)) code.function _ refl
+    (looks-as item (number ∷ []) number 𝓤 H (𝓖 .A) (givenOf 𝓤 H 𝓜 𝓖) (tablesOf 𝓤 H 𝓜 (tables 𝓤 H 𝓜 𝓡 code.env)) code.function _ said refl
     (walk 𝓤 H (𝓖 .A) (givenOf 𝓤 H 𝓜 𝓖) (tablesOf 𝓤 H 𝓜 (tables 𝓤 H 𝓜 𝓡 code.env))
     (cited 𝓤 H _ 𝓜 𝓡 code.env gate-def.name gate-def.routine code.calls-slots·gate (gate-thm.met 𝓤 H 𝓜 𝓖 𝓡))
     (cited 𝓤 H _ 𝓜 𝓡 code.env start-def.name start-def.routine code.calls-slots·weigh-start (start-thm.met 𝓤 H 𝓜 𝓖 𝓡))
-    (cited 𝓤 H _ 𝓜 𝓡 code.env pass-def.name pass-def.routine code.calls-tables·weigh-all (pass-thm.met 𝓤 H 𝓜 𝓖 𝓡))))
+    (cited 𝓤 H _ 𝓜 𝓡 code.env pass-def.name pass-def.routine code.calls-tables·weigh-all (pass-thm.met 𝓤 H 𝓜 𝓖 𝓡)))
+    (λ κs a. claim.clauses 𝓤 H (𝓖 .A) (𝓜 .mem) (𝓡 .run) κs a .ensures)
+    (λ κs a r e h. factI 𝓤 _ (emp 𝓤) (h ∙ spare-tied (now (a .0)) (a .1 .0))))

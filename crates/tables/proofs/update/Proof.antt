@@ -2,10 +2,9 @@
 use Rattle.frames.proofs.Walk.{_≡_, refl, _∙_, true, false, List, [], _∷_, ℕ, eqb, length, getD, set, length-set, URA, fullShare, Heap, Tables, Atoms, fmOf}
 use Rattle.frames.proofs.Walk.{givenOf, tables, tablesOf, Given, _$_, !, by}
 use Rattle.frames.proofs.Walk.{look, and-then, no-more, returns-within, lit, of-opd, bin, returns, Triple, entered, cited, ifs, var, piece, sets, leaves}
-use Rattle.frames.proofs.Walk.{number, Ins, Gives, calls-by, fetch, puts, Says, Walk, lends}
+use Rattle.frames.proofs.Walk.{number, Ins, Gives, calls-by, fetch, puts, Says, Walk, lends-as, now, factI, emp}
 use denote.Struct.Laws as LL
-use Rattle.rules.specs.Limits.{narrow}
-use Rattle.rules.specs.Tables.{slotNumber, updateAt, outside}
+use Rattle.rules.specs.Tables.{outside}
 use Rattle.rules.specs.declared.Record.{Record}
 use Rattle.slots.specs.declared.One.{One}
 use Rattle.slots.specs.Gates.{gateCode}
@@ -19,6 +18,7 @@ use Rattle.slots.proofs.gate.Symbol as gate-def
 use Rattle.slots.proofs.gate.Met as gate-thm
 use Rattle.slots.proofs.update_rule.Symbol as rule-def
 use Rattle.slots.proofs.update_rule.Met as rule-thm
+use Rattle.tables.proofs.update as claim
 use Rattle.tables.proofs.update.Key.{name as #update}
 use Rattle.tables.proofs.update.Statement as stated
 use Rattle.tables.proofs.update.Code as code
@@ -27,7 +27,7 @@ abbrev ruleOf : Ins 0 tt (number ∷ item ∷ []) → One
 ruleOf a = updateRule (a .0) (a .1 .0)
 
 abbrev said : Says item (number ∷ []) number
-said κs ys a r zs = (r ≡ slotNumber (updateAt narrow ys (a .0) .answer)) × (zs ≡ updateAt narrow ys (a .0) .table)
+said κs ys a r zs = (r ≡ updateCode ys (a .0)) × (zs ≡ updateList ys (a .0))
 
 module _ {M : Type 1} (𝓤 : URA M) (H : Heap 𝓤) (A : Atoms 𝓤) (W : Given 𝓤 H A) (𝓣 : Tables 𝓤 H)
     (known-gate : Triple 𝓤 (𝓣 .C gate-def.name) (Gives 𝓤 H A (number ∷ number ∷ number ∷ []) number gateOf))
@@ -50,17 +50,19 @@ module _ {M : Type 1} (𝓤 : URA M) (H : Heap 𝓤) (A : Atoms 𝓤) (W : Given
       puts ! item ys i (d .first) b o l gn 12 refl (fields .1 .0) (of-opd ! (piece ! refl refl refl)) $
       sets ! (of-opd ! (piece ! refl refl refl)) refl (tt, record { fits = fields .0 .1 }) $ returns-within ! Post refl (look ! 0 refl) $ leaves ! refl refl $
       let p : d .code ≡ updateCode ys i = simp e in let z : ys₁ ≡ updateList ys i = simp e in
-      by ! (closes ys₁ (d .code) (length-set ys i (d .first)) (p ∙ update-tied ys i .0, z ∙ update-tied ys i .1) (fields .0)))))
+      by ! (closes ys₁ (d .code) (length-set ys i (d .first)) (p, z) (fields .0)))))
       (λ no. let e : eqb g 0 ≡ false = holds-false (eqb g 0) no in
       sets ! (of-opd ! (var ! refl)) refl (tt, record { fits = ig .1 }) $ returns ! (look ! 0 refl) $ leaves ! refl refl $
       let p : g ≡ updateCode ys i = simp e in let z : ys ≡ updateList ys i = simp e in
-      by ! (closes ys g refl (p ∙ update-tied ys i .0, z ∙ update-tied ys i .1) ig)))
+      by ! (closes ys g refl (p, z) ig)))
 
 pub update-spec : {M : Type 1} → stated.statement M
 unfolding code.routine tablesOf
 update-spec 𝓤 H 𝓜 𝓖 𝓡 =
     entered 𝓤 H _ (tables 𝓤 H 𝓜 𝓡 code.env .C) (tables 𝓤 H 𝓜 𝓡 code.env .Λ) #update code.function (code.unfolded 𝓤 H 𝓜 𝓡)
-    (lends item (number ∷ []) number 𝓤 H (𝓖 .A) said (givenOf 𝓤 H 𝓜 𝓖) (tablesOf 𝓤 H 𝓜 (tables 𝓤 H 𝓜 𝓡 code.env)) code.function _ refl
+    (lends-as item (number ∷ []) number 𝓤 H (𝓖 .A) (givenOf 𝓤 H 𝓜 𝓖) (tablesOf 𝓤 H 𝓜 (tables 𝓤 H 𝓜 𝓡 code.env)) code.function _ said refl
     (walk 𝓤 H (𝓖 .A) (givenOf 𝓤 H 𝓜 𝓖) (tablesOf 𝓤 H 𝓜 (tables 𝓤 H 𝓜 𝓡 code.env))
     (cited 𝓤 H _ 𝓜 𝓡 code.env gate-def.name gate-def.routine code.calls-slots·gate (gate-thm.met 𝓤 H 𝓜 𝓖 𝓡))
-    (cited 𝓤 H _ 𝓜 𝓡 code.env rule-def.name rule-def.routine code.calls-slots·update-rule (rule-thm.met 𝓤 H 𝓜 𝓖 𝓡))))
+    (cited 𝓤 H _ 𝓜 𝓡 code.env rule-def.name rule-def.routine code.calls-slots·update-rule (rule-thm.met 𝓤 H 𝓜 𝓖 𝓡)))
+    (λ κs a. claim.clauses 𝓤 H (𝓖 .A) (𝓜 .mem) (𝓡 .run) κs a .ensures)
+    (λ κs a r e h. factI 𝓤 _ (emp 𝓤) (h .0 ∙ update-tied (now (a .0)) (a .1 .0) .0, h .1 ∙ update-tied (now (a .0)) (a .1 .0) .1)))

@@ -46,7 +46,7 @@ module _ {M : Type 1} (𝓤 : URA M) (H : Heap 𝓤) (A : Atoms 𝓤) (W : Given
       returns-within ! Post refl (look ! 0 refl) $ leaves ! refl refl $ by ! (shuts r (simp (e₀, e₁) at) is)))
       (λ no. let e₁ : eqb op 83 ≡ false = holds-false (eqb op 83) no in
       sets ! (of-opd ! (lit ! tt)) refl (tt, record { fits = lit< tt }) $ returns ! (look ! 0 refl) $ leaves ! refl refl $
-      by ! (shuts 0 (simp (e₀, e₁)) (refl, lit< tt))))
+      by ! (shuts 1011 (simp (e₀, e₁)) (refl, lit< tt))))
 
 pub tell-spec : {M : Type 1} → stated.statement M
 unfolding code.routine tablesOf
