@@ -99,7 +99,7 @@ fn join_in<'a>(
     requires { ⌜ (uc ≤ length (now u)) × (ic ≤ length (now i)) × (vc ≤ length (now v)) × (jc ≤ length (now j)) ⌝ }
     ensures { λ r. ⌜ (r ≡ joinedCounts (take uc (now (u .entry))) (take ic (now (i .entry))) (take vc (now (v .entry))) (take jc (now (j .entry))) (now (update .entry)) (now (id .entry)))
         × (now (update .exit) ≡ joinedUpdateIn (take uc (now (u .entry))) (take ic (now (i .entry))) (take vc (now (v .entry))) (take jc (now (j .entry))) (now (update .entry)) (now (id .entry)))
-        × (now (id .exit) ≡ joinedIdIn (take ic (now (i .entry))) (take jc (now (j .entry))) (now (id .entry))) ⌝ }
+        × (now (id .exit) ≡ joinedIdIn (take uc (now (u .entry))) (take ic (now (i .entry))) (take vc (now (v .entry))) (take jc (now (j .entry))) (now (update .entry)) (now (id .entry))) ⌝ }
 {
     unions::join(&u[..uc], &i[..ic], &v[..vc], &j[..jc], update, id)
 }

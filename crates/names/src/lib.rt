@@ -11,8 +11,8 @@ ghost use Rattle.rules.specs.Stored.{strsIn, isStoredName};
 ghost use Rattle.names.specs.Lent.{countedIs, grownIn};
 use rules::Words;
 use std::num::wrapping_add_u64;
+use strings::begins;
 use strings::is_word;
-use strings::last;
 
 // A name has at most so many strings.
 pub const STRINGS: usize = 16;
@@ -67,12 +67,12 @@ fn rises(w: &[u64], c: usize) -> bool
     true
 }
 
-// Whether the string of a comes before that of b: all words that extend a end before the word b.
+// Whether the string of a comes before that of b: the lower word, and no prefix.
 fn ends_before(a: u64, b: u64) -> bool
     requires { ⌜ (isWord (narrow .digits) a ≡ true) × (isWord (narrow .digits) b ≡ true) ⌝ }
     ensures { λ r. ⌜ r ≡ less (strOf a) (strOf b) ⌝ }
 {
-    last(a) < b
+    a < b && !begins(a, b)
 }
 
 // Whether the words from index c on are 0: no bit is set in any of them.

@@ -1,6 +1,5 @@
--- Order and prefix by one comparison of words: the words of strings that extend a stand together, b comes behind a exactly when b is above
--- the last of them, and extends a when it is neither above it nor below a. Words that agree in a's digits are of strings of which one is a
--- prefix of the other. Assumes nothing.
+-- Order by one comparison of words: the words of strings that extend a stand together, and b comes behind a exactly when b is above the last
+-- of them. Words that agree in a's digits are of strings of which one is a prefix of the other. Assumes nothing.
 use mathlib.Core.Path.{_≡_, refl, sym, ap, _∙_}
 use mathlib.Core.Bool.{Bool, true, false}
 use mathlib.Core.List.{List, [], _∷_}
@@ -131,10 +130,3 @@ module _ (most : ℕ) (small : most ≤ 58) (a : ℕ) (ha : isWord most a ≡ tr
     last-less =
         iff (λ h. above-less (ltb-true (lastOf a) b h))
         (λ h. not-false (λ e. clash h (within-not-less (le-of-lt (less-lt most small a b ha hb h)) (ltb-false (lastOf a) b e))))
-
-    -- a word that is not below a's is of a string that extends a exactly when it is not above it
-    pub last-prefix : a ≤ b → leb b (lastOf a) ≡ prefix (strOf a) (strOf b)
-    last-prefix l =
-        iff
-        (λ h. not-false (λ p. clash (le-less most small a b ha hb l p) (within-not-less l (leb-true b (lastOf a) h))))
-        (λ p. not-false (λ e. clash p (less-apart (strOf a) (strOf b) (above-less (leb-false b (lastOf a) e)) .0)))

@@ -6,7 +6,6 @@ use Rattle.strings.proofs.shared
 use Rattle.strings.proofs.begins
 use Rattle.strings.proofs.are_siblings
 use Rattle.strings.proofs.is_word
-use Rattle.strings.proofs.last
 
 pub shared-one-answer : OneAnswer shared.ended (λ M 𝓤. shared.clauses 𝓤) (λ M 𝓤. shared.spec 𝓤)
 shared-one-answer M 𝓤 H A mem run = (refl, λ κs a g h r s v w. both-say 𝓤 (λ e f. (agree e f, refl)))
@@ -19,6 +18,3 @@ are-siblings-one-answer M 𝓤 H A mem run = (refl, λ κs a g h r s v w. both-s
 
 pub is-word-one-answer : OneAnswer is_word.ended (λ M 𝓤. is_word.clauses 𝓤) (λ M 𝓤. is_word.spec 𝓤)
 is-word-one-answer M 𝓤 H A mem run = (refl, λ κs a g h r s v w. both-say 𝓤 (λ e f. (agree e f, refl)))
-
-pub last-one-answer : OneAnswer last.ended (λ M 𝓤. last.clauses 𝓤) (λ M 𝓤. last.spec 𝓤)
-last-one-answer M 𝓤 H A mem run = (refl, λ κs a g h r s v w. both-say 𝓤 (λ e f. (agree e f, refl)))

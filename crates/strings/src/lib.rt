@@ -2,7 +2,7 @@
 ghost use mathlib.Core.Path.{_≡_};
 ghost use Rattle.rules.specs.Limits.{narrow};
 ghost use Rattle.rules.specs.Strings.{common, field, siblings, strOf, isWord};
-ghost use Rattle.strings.specs.Words.{begins, lastOf};
+ghost use Rattle.strings.specs.Words.{begins};
 
 // A string has at most so many digits.
 pub const DIGITS: u64 = 24;
@@ -43,12 +43,4 @@ pub fn is_word(w: u64) -> bool
         return (w - length) << length == 0;
     }
     false
-}
-
-// The last word that begins with the digits of s: no string that s is a prefix of has a larger word.
-pub fn last(s: u64) -> u64
-    ensures { λ r. ⌜ r ≡ lastOf s ⌝ }
-{
-    let ones = u64::MAX >> (s % 64);
-    s - (s & ones) + ones
 }

@@ -1,15 +1,13 @@
 -- None of the three leaves more words than it is given. Assumes nothing.
-use mathlib.Core.Path.{_≡_, refl}
 use mathlib.Core.Bool.{Bool, true, false, cond}
 use mathlib.Core.List.{List, [], _∷_}
 use Prim.Native.Nat.{ℕ, suc, _+_, _-_, _≤_}
 use native.Mathlib.Omega.{arith}
-use borrow.Author.Tests.{leb-true}
-use lib.Dec.{eqb, leb, ltb}
-use lib.ListN.{length, take, length-reverse}
-use lib.Seq.{length-take-le}
+use lib.Dec.{eqb, ltb}
+use lib.ListN.{length, length-reverse}
 use Rattle.rules.specs.Strings.{siblings, strOf}
-use Rattle.unions.specs.Unions.{behind, mergeFrom, merge, push, pushAll, reduced, reducedCount, seek, lift, onceFrom, once, lifted}
+use Rattle.strings.specs.Words.{begins}
+use Rattle.unions.specs.Unions.{mergeFrom, merge, push, pushAll, reduced, seek, lift, onceFrom, once, lifted}
 
 pub merge-few : (m n : List ℕ) → length (merge m n) ≤ length m + length n
 unfolding merge mergeFrom
@@ -18,10 +16,10 @@ merge-few (s ∷ m) n = from n (λ l. merge-few m l)
   where
     from : (n : List ℕ) → ((l : List ℕ) → length (merge m l) ≤ length m + length l) → length (merge (s ∷ m) n) ≤ suc (length m) + length n
     from [] ih = omega arith
-    from (t ∷ n) ih = by (ltb s t) (behind t s) (behind s t) (from n ih) (ih (t ∷ n))
+    from (t ∷ n) ih = by (ltb s t) (begins s t) (begins t s) (from n ih) (ih (t ∷ n))
       where
         by : (a b c : Bool) → length (merge (s ∷ m) n) ≤ suc (length m) + length n → length (merge m (t ∷ n)) ≤ length m + suc (length n)
-            → length (cond a (cond b (s ∷ merge m (t ∷ n)) (merge m (t ∷ n))) (cond c (t ∷ merge (s ∷ m) n) (merge (s ∷ m) n)))
+            → length (cond a (cond b (merge m (t ∷ n)) (s ∷ merge m (t ∷ n))) (cond c (merge (s ∷ m) n) (t ∷ merge (s ∷ m) n)))
             ≤ suc (length m) + suc (length n)
         by true true c p q = omega arith
         by true false c p q = omega arith
@@ -45,17 +43,6 @@ all-few (s ∷ l) n = omega (arith, all-few l (push s n), push-few n s)
 pub reduced-few : (l : List ℕ) → length (reduced l) ≤ length l
 unfolding reduced
 reduced-few l = omega (arith, length-reverse (pushAll [] l), all-few l [])
-
--- so the buffer has room for them
-pub reduced-fits : (id : List ℕ) (count : ℕ) → reducedCount id count ≤ length id
-unfolding reducedCount
-reduced-fits id count = by (leb count (length id)) refl
-  where
-    by : (b : Bool) → leb count (length id) ≡ b → cond b (length (reduced (take count id))) 0 ≤ length id
-    by true e =
-        let h = leb-true count (length id) e in
-        omega (arith, h, reduced-few (take count id), length-take-le count id h)
-    by false e = omega arith
 
 from-few : (l : List ℕ) (a : ℕ) → length (onceFrom a l) ≤ length l
 unfolding onceFrom

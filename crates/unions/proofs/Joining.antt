@@ -6,7 +6,8 @@ use mathlib.Core.List.{List, [], _∷_, map}
 use mathlib.Core.Logic.{inl, inr}
 use Prim.Native.Nat.{ℕ, _+_, _*_, _-_, _≤_}
 use native.Mathlib.Omega.{arith}
-use lib.ListN.{length, take, replicate, length-map}
+use borrow.Author.Tests.{le-leb}
+use lib.ListN.{length, take, replicate, length-map, length-replicate}
 use lib.Seq.{take-at}
 use Rattle.rules.specs.Limits.{narrow}
 use Rattle.rules.specs.Strings.{wordOf, strOf, isWord}
@@ -22,12 +23,13 @@ use Rattle.laws.proofs.Counts.{count-below}
 use Rattle.laws.proofs.Lawful.{Named, Lawful, Short, lawful-parts, lawful-proper, unite-proper}
 use Rattle.laws.proofs.Stored.{strs-of-words, stored-lawful, stored-is}
 use Rattle.unions.specs.declared.Joined.{Joined}
-use Rattle.unions.specs.Unions.{merge, reduced, lifted, joinedIds, joinedIdIn, joinedId, joinedCounts, joinedUpdateIn}
+use Rattle.unions.specs.Unions.{cleared, merge, reduced, lifted, joinedId, joinedUpdate, canJoin, joinedCounts, joinedUpdateIn, joinedIdIn}
 use Rattle.unions.proofs.Words.{strs, of-string}
 use Rattle.unions.proofs.Merging.{merge-words, merge-union}
 use Rattle.unions.proofs.Reducing.{reduced-id, reduced-words}
 use Rattle.unions.proofs.Lifting.{lifted-update, lifted-words}
-use Rattle.unions.proofs.Buffers.{Holds, holds-front, holds-length, unite-holds, reduce-holds, lift-holds}
+use Rattle.unions.proofs.Counts.{merge-few, reduced-few, lifted-few}
+use Rattle.unions.proofs.Buffers.{cleared-length, cleared-over}
 
 -- the strings of two names
 abbrev pub room : ℕ
@@ -88,6 +90,13 @@ module _ (m n : Name) (hm : Named narrow m) (hn : Named narrow n) where
     where
       rises : (n : Name) → Named narrow n → rising (strs (map wordOf n)) ≡ true
       rises n h = subst (λ (l : Name). rising l ≡ true) (sym (words-strs n (h .short))) (h .rises)
+
+  few : length both ≤ room
+  few = omega (arith, merge-few (map wordOf m) (map wordOf n), both-few)
+
+-- the words at the front of what is cleared
+at-front : (k : ℕ) (out w : List ℕ) → k ≡ length w → out ≡ cleared room w → take k out ≡ w
+at-front k out w e f = ap₂ take e f ∙ take-at w (replicate (room - length w) 0) (length w) refl
 
 -- ---- two lawful stamps
 
@@ -161,50 +170,48 @@ module _ (a b : Stamp) (ha : lawful narrow a ≡ true) (hb : lawful narrow b ≡
         count-below (j .update) (j .id) (p .updateRising) (p .belowId),
       )
 
-  -- on two buffers of zeros
+  -- in two buffers of zeros
   abbrev zeros : List ℕ
   zeros = replicate room 0
 
-  id-held : Holds room (joinedIdIn (map wordOf (a .id)) (map wordOf (b .id)) zeros) (joinedIds (map wordOf (a .id)) (map wordOf (b .id)) zeros) idWords
-  unfolding joinedIds joinedIdIn
-  id-held =
-      reduce-holds room _ _ _ _ ids
-      (unite-holds room (map wordOf (a .id)) (map wordOf (b .id)) _ _ (both-few (a .id) (b .id) (pa .idNamed) (pb .idNamed)) refl refl) refl refl
-
-  id-front : joinedId (map wordOf (a .id)) (map wordOf (b .id)) zeros ≡ idWords
-  unfolding joinedId
-  id-front = holds-front room _ _ idWords id-held
+  can : canJoin (map wordOf (a .update)) (map wordOf (a .id)) (map wordOf (b .update)) (map wordOf (b .id)) zeros zeros ≡ true
+  can = and-both (le-leb _ (length zeros) (fits (a .update) (b .update) (pa .updateNamed) (pb .updateNamed))) (le-leb _ (length zeros) (fits (a .id) (b .id) (pa .idNamed) (pb .idNamed)))
+    where
+      fits : (m n : Name) → Named narrow m → Named narrow n → length (map wordOf m) + length (map wordOf n) ≤ length zeros
+      fits m n hm hn = omega (arith, both-few m n hm hn, length-replicate {A = ℕ} room 0)
 
   module _ (r : Joined) (us is : List ℕ)
       (told : r ≡ joinedCounts (map wordOf (a .update)) (map wordOf (a .id)) (map wordOf (b .update)) (map wordOf (b .id)) zeros zeros)
       (updateTold : us ≡ joinedUpdateIn (map wordOf (a .update)) (map wordOf (a .id)) (map wordOf (b .update)) (map wordOf (b .id)) zeros zeros)
-      (idTold : is ≡ joinedIdIn (map wordOf (a .id)) (map wordOf (b .id)) zeros) where
-    id-is : Holds room is (r .id) idWords
-    unfolding joinedCounts
-    id-is = rw (idTold, ap (λ (s : Joined). s .id) told) id-held
+      (idTold : is ≡ joinedIdIn (map wordOf (a .update)) (map wordOf (a .id)) (map wordOf (b .update)) (map wordOf (b .id)) zeros zeros) where
+    counted : r ≡ record { fits = true; update = length updateWords; id = length idWords }
+    unfolding joinedCounts joinedUpdate joinedId
+    counted = told ∙ rw can
 
-    update-is : Holds room us (r .update) updateWords
-    unfolding joinedCounts joinedUpdateIn
-    update-is =
-        lift-holds room _ us _ (r .update) idWords updates
-        (unite-holds room (map wordOf (a .update)) (map wordOf (b .update)) _ _ (both-few (a .update) (b .update) (pa .updateNamed) (pb .updateNamed)) refl refl)
-        (rw id-front at (ap (λ (s : Joined). s .update) told)) (rw id-front at updateTold)
+    update-is : us ≡ cleared room updateWords
+    unfolding joinedUpdateIn joinedUpdate joinedId
+    update-is = updateTold ∙ rw can (cleared-over room (length updates) updateWords (lifted-few idWords updates) (few (a .update) (b .update) (pa .updateNamed) (pb .updateNamed)))
 
-    pub stamps-joined : Told j r us is
+    id-is : is ≡ cleared room idWords
+    unfolding joinedIdIn joinedId
+    id-is = idTold ∙ rw can (cleared-over room (length ids) idWords (reduced-few ids) (few (a .id) (b .id) (pa .idNamed) (pb .idNamed)))
+
+    stamps-joined : Told j r us is
     stamps-joined =
-        let i = id-is in
-        let u = update-is in
-        let f = holds-front room is (r .id) idWords i in
-        let g = holds-front room us (r .update) updateWords u in
+        let c = ap (λ (s : Joined). s .id) counted in
+        let d = ap (λ (s : Joined). s .update) counted in
+        let f = at-front (r .id) is idWords c id-is in
+        let g = at-front (r .update) us updateWords d update-is in
+        let k : length idWords ≤ room = omega (arith, reduced-few ids, few (a .id) (b .id) (pa .idNamed) (pb .idNamed)) in
         record {
           update = ap strs g ∙ update-strs;
           id = ap strs f ∙ id-strs;
           updateWords = rw g update-words;
           idWords = rw f id-words;
-          counts = omega (arith, i .count, u .count, update-few);
-          fits = omega (arith, i .count, i .few);
-          updateRoom = holds-length room us (r .update) updateWords u;
-          idRoom = holds-length room is (r .id) idWords i;
+          counts = omega (arith, c, d, update-few);
+          fits = omega (arith, c, k);
+          updateRoom = ap length update-is ∙ cleared-length room updateWords (omega (arith, update-few, k));
+          idRoom = ap length id-is ∙ cleared-length room idWords k;
         }
 
 -- ---- two stored records
@@ -221,10 +228,10 @@ module _ (r : Record) (h : isStored narrow r ≡ true) where
 pub records-joined : (a b : Record) → isStored narrow a ≡ true → isStored narrow b ≡ true → (r : Joined) (us is : List ℕ)
     → r ≡ joinedCounts (front (a .update)) (front (a .id)) (front (b .update)) (front (b .id)) (replicate room 0) (replicate room 0)
     → us ≡ joinedUpdateIn (front (a .update)) (front (a .id)) (front (b .update)) (front (b .id)) (replicate room 0) (replicate room 0)
-    → is ≡ joinedIdIn (front (a .id)) (front (b .id)) (replicate room 0)
+    → is ≡ joinedIdIn (front (a .update)) (front (a .id)) (front (b .update)) (front (b .id)) (replicate room 0) (replicate room 0)
     → Told (join (held a) (held b)) r us is
 records-joined a b ha hb r us is p q s =
     stamps-joined (held a) (held b) (stored-lawful narrow a ha) (stored-lawful narrow b hb) r us is
     (rw (update-front a ha, id-front-is a ha, update-front b hb, id-front-is b hb) at p)
     (rw (update-front a ha, id-front-is a ha, update-front b hb, id-front-is b hb) at q)
-    (rw (id-front-is a ha, id-front-is b hb) at s)
+    (rw (update-front a ha, id-front-is a ha, update-front b hb, id-front-is b hb) at s)

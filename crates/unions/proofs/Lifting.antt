@@ -18,7 +18,7 @@ use Rattle.laws.proofs.Prefix.{prefix-refl}
 use Rattle.laws.proofs.Steps.{Proper}
 use Rattle.laws.proofs.Reduce.{reduce-proper}
 use Rattle.strings.proofs.Order.{prefix-le, le-less}
-use Rattle.strings.proofs.Ends.{last-less}
+use Rattle.strings.proofs.Fronts.{begins-less}
 use Rattle.unions.specs.Unions.{behind, reduced, seek, root, lift, onceFrom, once, lifted}
 use Rattle.unions.proofs.Words.{strs, prefixW, in-strs, strs-in, word-alike}
 use Rattle.unions.proofs.Merging.{Words}
@@ -52,7 +52,7 @@ module _ (most : ℕ) (hm : most ≤ 58) where
   unfolding seek
   sought [] r p q h = record { past = λ t i. absurd i; rises = h; stops = tt }
   sought (w ∷ c) r p q h =
-      by (behind r w) (last-less most hm w (p w (inl refl)) r q) (sought c r (λ t i. p t (inr i)) q (rising-tail (strOf w) (strs c) h))
+      by (behind r w) (begins-less most hm w r (p w (inl refl)) q) (sought c r (λ t i. p t (inr i)) q (rising-tail (strOf w) (strs c) h))
     where
       by : (b : Bool) → b ≡ less (strOf w) (strOf r) → Sought c r (seek c r) → Sought (w ∷ c) r (cond b (seek c r) (w ∷ c))
       by true e g = record {

@@ -6,7 +6,7 @@ use mathlib.Core.List.{List, [], _∷_, _++_}
 use mathlib.Core.Logic.{_⊎_, inl, inr, ⊎-elim}
 use Prim.Native.Nat.{ℕ, _≤_}
 use native.Mathlib.Nat.{le-of-lt}
-use borrow.Author.Tests.{ltb-true, ltb-false, le-leb}
+use borrow.Author.Tests.{ltb-true, ltb-false}
 use lib.Dec.{ltb}
 use Rattle.rules.specs.Strings.{Str, prefix, less, strOf, isWord}
 use Rattle.rules.specs.Names.{all, rising, union}
@@ -14,9 +14,10 @@ use Rattle.laws.proofs.Tests.{In, in-left, in-right, in-append, Some, all-each,
 use Rattle.laws.proofs.Prefix.{prefix-refl, prefix-trans, prefix-antisym}
 use Rattle.laws.proofs.Rising.{less-trans, rising-head, rising-tail, rising-cons, rising-antichain, rising-unique}
 use Rattle.laws.proofs.Union.{union-top, top-union, union-rising}
-use Rattle.strings.specs.Words.{lastOf}
-use Rattle.strings.proofs.Ends.{last-less, last-prefix}
-use Rattle.unions.specs.Unions.{behind, mergeFrom, merge}
+use Rattle.strings.specs.Words.{begins}
+use Rattle.strings.proofs.Order.{le-less}
+use Rattle.strings.proofs.Fronts.{begins-prefix}
+use Rattle.unions.specs.Unions.{mergeFrom, merge}
 use Rattle.unions.proofs.Words.{strs, prefixW, From, in-strs, strs-in}
 
 -- ---- the ways of a merge
@@ -35,9 +36,12 @@ abbrev pub Words : ℕ → List ℕ → Type 0
 Words most l = (x : ℕ) → In x l → isWord most x ≡ true
 
 module _ (most : ℕ) (hm : most ≤ 58) where
-  -- not below a, and not behind it: an extension
-  within : (a b : ℕ) → isWord most a ≡ true → isWord most b ≡ true → a ≤ b → behind b a ≡ false → prefixW a b ≡ true
-  within a b v w l e = sym (last-prefix most hm a v b w l) ∙ le-leb b (lastOf a) (ltb-false (lastOf a) b e)
+  -- a word that is not below a: of an extension, or of a string that comes after
+  within : (a b : ℕ) → isWord most a ≡ true → isWord most b ≡ true → a ≤ b → begins a b ≡ true → prefixW a b ≡ true
+  within a b v w l e = sym (begins-prefix most hm a b v w l) ∙ e
+
+  beyond : (a b : ℕ) → isWord most a ≡ true → isWord most b ≡ true → a ≤ b → begins a b ≡ false → less (strOf a) (strOf b) ≡ true
+  beyond a b v w l e = le-less most hm a b v w l (sym (begins-prefix most hm a b v w l) ∙ e)
 
   merged : (m n : List ℕ) → Words most m → Words most n → Merged m n (merge m n)
   unfolding merge mergeFrom
@@ -46,7 +50,7 @@ module _ (most : ℕ) (hm : most ≤ 58) where
     where
       from : (n : List ℕ) → Words most n → ((l : List ℕ) → Words most l → Merged m l (merge m l)) → Merged (s ∷ m) n (merge (s ∷ m) n)
       from [] q ih = first
-      from (t ∷ n) q ih = by (ltb s t) refl (behind t s) refl (behind s t) refl (ih (t ∷ n) q) (from n (λ x i. q x (inr i)) ih)
+      from (t ∷ n) q ih = by (ltb s t) refl (begins s t) refl (begins t s) refl (ih (t ∷ n) q) (from n (λ x i. q x (inr i)) ih)
         where
           v : isWord most s ≡ true
           v = p s (inl refl)
@@ -54,13 +58,13 @@ module _ (most : ℕ) (hm : most ≤ 58) where
           w : isWord most t ≡ true
           w = q t (inl refl)
 
-          by : (a : Bool) → ltb s t ≡ a → (b : Bool) → behind t s ≡ b → (c : Bool) → behind s t ≡ c
+          by : (a : Bool) → ltb s t ≡ a → (b : Bool) → begins s t ≡ b → (c : Bool) → begins t s ≡ c
               → Merged m (t ∷ n) (merge m (t ∷ n)) → Merged (s ∷ m) n (merge (s ∷ m) n)
-              → Merged (s ∷ m) (t ∷ n) (cond a (cond b (s ∷ merge m (t ∷ n)) (merge m (t ∷ n))) (cond c (t ∷ merge (s ∷ m) n) (merge (s ∷ m) n)))
-          by true e true f c g x y = takes (sym (last-less most hm s v t w) ∙ f) x
-          by true e false f c g x y = skips (within s t v w (le-of-lt (ltb-true s t e)) f) x
-          by false e b f true g x y = takes2 (sym (last-less most hm t w s v) ∙ g) y
-          by false e b f false g x y = skips2 (within t s w v (ltb-false s t e) g) y
+              → Merged (s ∷ m) (t ∷ n) (cond a (cond b (merge m (t ∷ n)) (s ∷ merge m (t ∷ n))) (cond c (merge (s ∷ m) n) (t ∷ merge (s ∷ m) n)))
+          by true e true f c g x y = skips (within s t v w (le-of-lt (ltb-true s t e)) f) x
+          by true e false f c g x y = takes (beyond s t v w (le-of-lt (ltb-true s t e)) f) x
+          by false e b f true g x y = skips2 (within t s w v (ltb-false s t e) g) y
+          by false e b f false g x y = takes2 (beyond t s w v (ltb-false s t e) g) y
 
 -- nothing else comes in
 merged-in : {m n l : List ℕ} → Merged m n l → (x : ℕ) → In x l → In x m ⊎ In x n

@@ -1,16 +1,16 @@
 -- What a turn of `seek`, of `put_once` and of `lift` leaves to do. Assumes nothing.
 use mathlib.Core.Path.{_≡_, refl, sym, ap, _∙_}
-use mathlib.Core.Bool.{Bool, true, false, cond}
+use mathlib.Core.Bool.{Bool, true, false, cond, not, _&&_, and-false}
 use mathlib.Core.List.{List, [], _∷_, reverseAux, reverse}
 use mathlib.Core.Logic.{_⊎_, inl, inr}
 use Prim.Native.Nat.{ℕ, zero, suc, _+_, _-_, _≤_, _<_}
 use native.Mathlib.Numerals.{add-one}
 use native.Mathlib.Omega.{arith}
 use borrow.Author.Tests.{lt-ltb, le-ltb, eq-eqb, ne-eqb}
-use lib.Dec.{eqb}
+use lib.Dec.{eqb, ltb}
 use lib.ListN.{length, getD, take, drop, drop-of-length-le}
 use lib.Seq.{drop-cons, getD-take, length-take-le}
-use Rattle.strings.specs.Words.{lastOf}
+use Rattle.strings.specs.Words.{begins}
 use Rattle.unions.specs.Unions.{stack, seek, root, lift, onceFrom, once, lifted, onceOn}
 use Rattle.unions.proofs.Stacks.{stack-top, stack-front, drop-on, same-at}
 
@@ -20,13 +20,18 @@ module _ (id : List ℕ) (i r : ℕ) where
   abbrev here : ℕ
   here = getD id i 0
 
-  pub seek-next : i < length id → lastOf here < r → seek (drop (i + 1) id) r ≡ seek (drop i id) r
+  pub seek-next : i < length id → here < r → begins here r ≡ false → seek (drop (i + 1) id) r ≡ seek (drop i id) r
   unfolding seek
-  seek-next h l = rw (add-one, drop-cons id i 0 h) (simp (lt-ltb (lastOf here) r l))
+  seek-next h l e = rw (add-one, drop-cons id i 0 h) (simp (lt-ltb here r l, e))
 
-  pub seek-stop : i < length id → r ≤ lastOf here → seek (drop i id) r ≡ drop i id
+  pub seek-stop : i < length id → (r ≤ here) ⊎ (begins here r ≡ true) → seek (drop i id) r ≡ drop i id
   unfolding seek
-  seek-stop h l = rw (drop-cons id i 0 h) (simp (le-ltb (lastOf here) r l))
+  seek-stop h l = rw (drop-cons id i 0 h) (by l)
+    where
+      by : (r ≤ here) ⊎ (begins here r ≡ true)
+          → cond (ltb here r && not (begins here r)) (seek (drop (suc i) id) r) (here ∷ drop (suc i) id) ≡ here ∷ drop (suc i) id
+      by (inl k) = simp (le-ltb here r k)
+      by (inr k) = rw (k, and-false (ltb here r))
 
   pub seek-end : length id ≤ i → seek (drop i id) r ≡ drop i id
   unfolding seek

@@ -6,14 +6,15 @@ use mathlib.Core.Logic.{_⊎_, inl, inr}
 use Prim.Native.Nat.{ℕ, zero, suc, _+_, _-_, _≤_, _<_}
 use native.Mathlib.Numerals.{add-one}
 use native.Mathlib.Omega.{arith}
-use borrow.Author.Tests.{eqb-true, le-leb, lt-leb}
+use borrow.Author.Tests.{eqb-true}
 use lib.Dec.{eqb}
 use lib.ListN.{length, getD, take, drop, set, replicate, length-append, length-replicate, drop-of-length-le}
 use lib.Seq.{sets, sets-eq, take-suc, drop-cons, drop-drop, getD-drop, getD-take, getD-set-same, getD-set-other, length-take-le}
 use Rattle.rules.specs.Strings.{siblings, common, strOf}
+use Rattle.rules.specs.Packed.{over}
 use Rattle.laws.proofs.Tests.{and-right}
 use Rattle.laws.proofs.Words.{str-length}
-use Rattle.unions.specs.Unions.{push, pushAll, reduced, cleared, frontCount, frontIn, stack}
+use Rattle.unions.specs.Unions.{push, pushAll, reduced, cleared, stack}
 
 -- a string that has a sibling has a digit
 pub siblings-filled : (a b : ℕ) → siblings (strOf a) (strOf b) ≡ true → 1 ≤ a
@@ -104,15 +105,9 @@ module _ (start : List ℕ) (count : ℕ) (room : count ≤ length start) where
 
   -- and zeros in the place of the others are stored behind it
   pub turn-clears : (w l after : List ℕ) (k : ℕ) → k ≤ count → length l ≡ length start → take k l ≡ w → drop count l ≡ drop count start
-      → after ≡ sets l k (replicate (count - k) 0) → (k ≡ frontCount start count w) × (after ≡ frontIn start count w)
+      → after ≡ sets l k (replicate (count - k) 0) → (k ≡ length w) × (after ≡ over (cleared count w) start)
   turn-clears w l after k h q t d s =
       let n : length w ≡ k = ap length (sym t) ∙ length-take-le k l (omega arith) in
       let full : k + length {A = ℕ} (replicate (count - k) 0) ≡ count = omega (arith, length-replicate {A = ℕ} (count - k) 0) in
       let all : length (cleared count w) ≡ count = length-append w (replicate (count - length w) 0) ∙ rw n full in
-      rw (le-leb count (length start) room) (
-        sym n,
-        s ∙ sets-eq (replicate (count - k) 0) l k (omega arith) ∙ rw (all, full, t, d, n),
-      )
-
-pub front-none : (start : List ℕ) (count : ℕ) (w : List ℕ) → length start < count → (0 ≡ frontCount start count w) × (start ≡ frontIn start count w)
-front-none start count w h = rw (lt-leb count (length start) h) (refl, refl)
+      (sym n, s ∙ sets-eq (replicate (count - k) 0) l k (omega arith) ∙ rw (all, full, t, d, n))

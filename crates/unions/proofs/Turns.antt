@@ -1,37 +1,37 @@
 -- What the loop of `unite` comes to from a turn on: a turn leaves it as it was, and at the end one of the two is all that is left. Assumes nothing.
 use mathlib.Core.Path.{_≡_, refl, sym, ap, ap₂, _∙_}
-use mathlib.Core.Bool.{Bool, true, false, cond}
+use mathlib.Core.Bool.{Bool, true, false, cond, not}
 use mathlib.Core.List.{List, [], _∷_, _++_, append-nil}
 use mathlib.Core.Logic.{_⊎_, inl, inr}
 use Prim.Native.Nat.{ℕ, suc, _+_, _≤_, _<_}
 use native.Mathlib.Nat.{zero-add, add-assoc}
 use native.Mathlib.Numerals.{add-one}
 use native.Mathlib.Omega.{arith}
-use borrow.Author.Tests.{lt-ltb, le-ltb, le-leb, lt-leb}
-use lib.Dec.{ltb}
+use borrow.Author.Tests.{lt-ltb, le-ltb}
 use lib.ListN.{length, drop, getD, length-append, drop-of-length-le}
 use lib.Seq.{sets, drop-cons}
-use Rattle.strings.specs.Words.{lastOf}
-use Rattle.unions.specs.Unions.{opt, behind, mergeFrom, merge, united, unitedIn}
+use Rattle.rules.specs.Packed.{over}
+use Rattle.strings.specs.Words.{begins}
+use Rattle.unions.specs.Unions.{opt, mergeFrom, merge}
 use Rattle.unions.proofs.Counts.{merge-few}
 use Rattle.unions.proofs.Stores.{sets-append, sets-front}
 
 -- ---- one turn of the merge
 
 module _ (s t : ℕ) (m n : List ℕ) where
-  merge-lower : s < t → merge (s ∷ m) (t ∷ n) ≡ opt (behind t s) s ++ merge m (t ∷ n)
+  merge-lower : s < t → merge (s ∷ m) (t ∷ n) ≡ opt (not (begins s t)) s ++ merge m (t ∷ n)
   unfolding merge mergeFrom
-  merge-lower h = simp (lt-ltb s t h) (by (behind t s))
+  merge-lower h = simp (lt-ltb s t h) (by (begins s t))
     where
-      by : (b : Bool) → cond b (s ∷ merge m (t ∷ n)) (merge m (t ∷ n)) ≡ opt b s ++ merge m (t ∷ n)
+      by : (b : Bool) → cond b (merge m (t ∷ n)) (s ∷ merge m (t ∷ n)) ≡ opt (not b) s ++ merge m (t ∷ n)
       by true = refl
       by false = refl
 
-  merge-upper : t ≤ s → merge (s ∷ m) (t ∷ n) ≡ opt (behind s t) t ++ merge (s ∷ m) n
+  merge-upper : t ≤ s → merge (s ∷ m) (t ∷ n) ≡ opt (not (begins t s)) t ++ merge (s ∷ m) n
   unfolding merge mergeFrom
-  merge-upper h = simp (le-ltb s t h) (by (behind s t))
+  merge-upper h = simp (le-ltb s t h) (by (begins t s))
     where
-      by : (b : Bool) → cond b (t ∷ merge (s ∷ m) n) (merge (s ∷ m) n) ≡ opt b t ++ merge (s ∷ m) n
+      by : (b : Bool) → cond b (merge (s ∷ m) n) (t ∷ merge (s ∷ m) n) ≡ opt (not b) t ++ merge (s ∷ m) n
       by true = refl
       by false = refl
 
@@ -61,21 +61,21 @@ module _ (m n out : List ℕ) (k i j : ℕ) (hi : i < length m) (hj : j < length
   abbrev there : ℕ
   there = getD n j 0
 
-  -- z is the last word that begins with the lower one
-  pub merges-lower : (z r : ℕ) (after : List ℕ) → here < there → z ≡ lastOf here
-      → r ≡ k + length (opt (ltb z there) here) → after ≡ sets out k (opt (ltb z there) here)
+  -- z is whether the higher word extends the lower one
+  pub merges-lower : (z : Bool) (r : ℕ) (after : List ℕ) → here < there → z ≡ begins here there
+      → r ≡ k + length (opt (not z) here) → after ≡ sets out k (opt (not z) here)
       → merges (drop (i + 1) m) (drop j n) after r ≡ merges (drop i m) (drop j n) out k
   merges-lower z r after h e p q =
       rw (q, p, e)
-      (puts (opt (behind there here) here) (drop (i + 1) m) (drop j n) (drop i m) (drop j n) out k
+      (puts (opt (not (begins here there)) here) (drop (i + 1) m) (drop j n) (drop i m) (drop j n) out k
       (rw (add-one, drop-cons m i 0 hi, drop-cons n j 0 hj) (merge-lower here there (drop (suc i) m) (drop (suc j) n) h)))
 
-  pub merges-upper : (z r : ℕ) (after : List ℕ) → there ≤ here → z ≡ lastOf there
-      → r ≡ k + length (opt (ltb z here) there) → after ≡ sets out k (opt (ltb z here) there)
+  pub merges-upper : (z : Bool) (r : ℕ) (after : List ℕ) → there ≤ here → z ≡ begins there here
+      → r ≡ k + length (opt (not z) there) → after ≡ sets out k (opt (not z) there)
       → merges (drop i m) (drop (j + 1) n) after r ≡ merges (drop i m) (drop j n) out k
   merges-upper z r after h e p q =
       rw (q, p, e)
-      (puts (opt (behind here there) there) (drop i m) (drop (j + 1) n) (drop i m) (drop j n) out k
+      (puts (opt (not (begins there here)) there) (drop i m) (drop (j + 1) n) (drop i m) (drop j n) out k
       (rw (add-one, drop-cons m i 0 hi, drop-cons n j 0 hj) (merge-upper here there (drop (suc i) m) (drop (suc j) n) h)))
 
 -- one of the two has no word left: what is left of the other follows
@@ -92,12 +92,7 @@ merges-end m n out k i j h =
     one (inl e) = rw (drop-of-length-le n e) (merge-none (drop i m) ∙ sym (append-nil (drop i m)))
     one (inr e) = rw (drop-of-length-le m e)
 
-pub merges-all : (m n out : List ℕ) → length m + length n ≤ length out → merges m n out 0 ≡ (united m n out, unitedIn m n out)
-unfolding merges united unitedIn
+pub merges-all : (m n out : List ℕ) → length m + length n ≤ length out → merges m n out 0 ≡ (length (merge m n), over (merge m n) out)
+unfolding merges
 merges-all m n out h =
-    simp (le-leb (length m + length n) (length out) h)
-    (ap₂ (λ (x : ℕ) (y : List ℕ). (x, y)) (zero-add (length (merge m n))) (sets-front (merge m n) out (omega (arith, merge-few m n))))
-
-pub united-none : (m n out : List ℕ) → length out < length m + length n → (0 ≡ united m n out) × (out ≡ unitedIn m n out)
-unfolding united unitedIn
-united-none m n out h = simp (lt-leb (length m + length n) (length out) h) (refl, refl)
+    ap₂ (λ (x : ℕ) (y : List ℕ). (x, y)) (zero-add (length (merge m n))) (sets-front (merge m n) out (omega (arith, merge-few m n)))

@@ -1,20 +1,8 @@
--- Each public contract is an equation for the result and for what was lent, so it leaves one answer. Assumes nothing.
+-- The public contract is an equation for the result and for what was lent, so it leaves one answer. Assumes nothing.
 use mathlib.Core.Path.{refl}
 use Rattle.rules.specs.Contracts.{OneAnswer}
 use Rattle.laws.proofs.Contracts.{agree, both-say}
-use Rattle.unions.proofs.unite
-use Rattle.unions.proofs.reduce
-use Rattle.unions.proofs.lift
 use Rattle.unions.proofs.join
-
-pub unite-one-answer : OneAnswer unite.ended (λ M 𝓤. unite.clauses 𝓤) (λ M 𝓤. unite.spec 𝓤)
-unite-one-answer M 𝓤 H A mem run = (refl, λ κs a g h r s v w. both-say 𝓤 (λ e f. (agree (e .0) (f .0), λ i. (tt, (tt, (agree (e .1) (f .1) i, tt))))))
-
-pub reduce-one-answer : OneAnswer reduce.ended (λ M 𝓤. reduce.clauses 𝓤) (λ M 𝓤. reduce.spec 𝓤)
-reduce-one-answer M 𝓤 H A mem run = (refl, λ κs a g h r s v w. both-say 𝓤 (λ e f. (agree (e .0) (f .0), λ i. (agree (e .1) (f .1) i, (tt, tt)))))
-
-pub lift-one-answer : OneAnswer lift.ended (λ M 𝓤. lift.clauses 𝓤) (λ M 𝓤. lift.spec 𝓤)
-lift-one-answer M 𝓤 H A mem run = (refl, λ κs a g h r s v w. both-say 𝓤 (λ e f. (agree (e .0) (f .0), λ i. (tt, (agree (e .1) (f .1) i, (tt, tt))))))
 
 pub join-one-answer : OneAnswer join.ended (λ M 𝓤. join.clauses 𝓤) (λ M 𝓤. join.spec 𝓤)
 join-one-answer M 𝓤 H A mem run =

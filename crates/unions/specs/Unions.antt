@@ -1,37 +1,27 @@
 -- Names as words in rising order: the union as one merge, the reduction of an id by a stack, and what reduction makes of the update.
 -- Each goes once over its words. That they are `union` and `reduce` of the rules is shown in proofs/.
-use mathlib.Core.Bool.{Bool, true, false, cond}
+use mathlib.Core.Bool.{Bool, true, false, cond, not, _&&_}
 use mathlib.Core.List.{List, [], _∷_, _++_, reverse}
 use Prim.Native.Nat.{ℕ, zero, suc, _+_, _-_}
 use lib.Dec.{eqb, leb, ltb}
-use lib.ListN.{length, getD, take, replicate}
+use lib.ListN.{length, getD, replicate}
 use Rattle.rules.specs.Strings.{siblings, strOf}
 use Rattle.rules.specs.Packed.{over}
-use Rattle.strings.specs.Words.{lastOf}
+use Rattle.strings.specs.Words.{begins}
 use Rattle.unions.specs.declared.Joined.{Joined}
 
--- t stands behind all words that begin with the string of s: so t comes after s, and does not extend it
+-- t comes after s, and does not extend it
 abbrev pub behind : ℕ → ℕ → Bool
-behind t s = ltb (lastOf s) t
+behind t s = ltb s t && not (begins s t)
 
 -- x, or nothing
 abbrev pub opt : Bool → ℕ → List ℕ
 opt true x = x ∷ []
 opt false x = []
 
--- ---- words in the place of the first `count` of a buffer
-
 -- the words, and zeros behind them, c in all
 abbrev pub cleared : ℕ → List ℕ → List ℕ
 cleared c w = w ++ replicate (c - length w) 0
-
--- how many there are; where the buffer has not so many words, none
-abbrev pub frontCount : List ℕ → ℕ → List ℕ → ℕ
-frontCount l count w = cond (leb count (length l)) (length w) 0
-
--- those at the front, zeros in the place of what is gone, and the rest as it was
-abbrev pub frontIn : List ℕ → ℕ → List ℕ → List ℕ
-frontIn l count w = cond (leb count (length l)) (over (cleared count w) l) l
 
 -- ---- union
 
@@ -40,25 +30,13 @@ unfoldable pub mergeFrom : ℕ → List ℕ → (List ℕ → List ℕ) → List
 mergeFrom s m k [] = s ∷ m
 mergeFrom s m k (t ∷ n) =
     cond (ltb s t)
-    (cond (behind t s) (s ∷ k (t ∷ n)) (k (t ∷ n)))
-    (cond (behind s t) (t ∷ mergeFrom s m k n) (mergeFrom s m k n))
+    (cond (begins s t) (k (t ∷ n)) (s ∷ k (t ∷ n)))
+    (cond (begins t s) (mergeFrom s m k n) (t ∷ mergeFrom s m k n))
 
 -- the lower word comes first; a string is not kept beside one that it is a prefix of
 unfoldable pub merge : List ℕ → List ℕ → List ℕ
 merge [] n = n
 merge (s ∷ m) n = mergeFrom s m (merge m) n
-
--- the buffer has room for both
-abbrev pub canUnite : List ℕ → List ℕ → List ℕ → Bool
-canUnite m n out = leb (length m + length n) (length out)
-
--- how many words are written; without room none
-unfoldable pub united : List ℕ → List ℕ → List ℕ → ℕ
-united m n out = cond (canUnite m n out) (length (merge m n)) 0
-
--- the words at the front, and the rest as it was
-unfoldable pub unitedIn : List ℕ → List ℕ → List ℕ → List ℕ
-unitedIn m n out = cond (canUnite m n out) (over (merge m n) out) out
 
 -- ---- reduction of the id
 
@@ -75,14 +53,6 @@ pushAll n (s ∷ l) = pushAll (push s n) l
 -- all of them, in rising order again
 unfoldable pub reduced : List ℕ → List ℕ
 reduced l = reverse (pushAll [] l)
-
--- how many of the first words are left; where there are not so many words, none
-unfoldable pub reducedCount : List ℕ → ℕ → ℕ
-reducedCount id count = frontCount id count (reduced (take count id))
-
--- and what the buffer holds
-unfoldable pub reducedIn : List ℕ → ℕ → List ℕ
-reducedIn id count = frontIn id count (reduced (take count id))
 
 -- ---- what reduction makes of the update
 
@@ -115,35 +85,32 @@ once (a ∷ l) = a ∷ onceFrom a l
 unfoldable pub lifted : List ℕ → List ℕ → List ℕ
 lifted i u = once (lift i u)
 
--- how many of the first words are left, and what the buffer holds
-unfoldable pub liftedCount : List ℕ → List ℕ → ℕ → ℕ
-liftedCount id u count = frontCount u count (lifted id (take count u))
-
-unfoldable pub liftedIn : List ℕ → List ℕ → ℕ → List ℕ
-liftedIn id u count = frontIn u count (lifted id (take count u))
-
 -- ---- the join of the stamps [u|i] and [v|j]
 
--- the union of both ids, reduced: how many words, and the buffer
-unfoldable pub joinedIds : List ℕ → List ℕ → List ℕ → ℕ
-joinedIds i j id = reducedCount (unitedIn i j id) (united i j id)
+-- the union of both ids, reduced
+unfoldable pub joinedId : List ℕ → List ℕ → List ℕ
+joinedId i j = reduced (merge i j)
 
-unfoldable pub joinedIdIn : List ℕ → List ℕ → List ℕ → List ℕ
-joinedIdIn i j id = reducedIn (unitedIn i j id) (united i j id)
+-- the union of both updates, lifted beside it
+unfoldable pub joinedUpdate : List ℕ → List ℕ → List ℕ → List ℕ → List ℕ
+joinedUpdate u i v j = lifted (joinedId i j) (merge u v)
 
--- its words
-unfoldable pub joinedId : List ℕ → List ℕ → List ℕ → List ℕ
-joinedId i j id = take (joinedIds i j id) (joinedIdIn i j id)
+-- both buffers have room for the words of both names
+abbrev pub canJoin : List ℕ → List ℕ → List ℕ → List ℕ → List ℕ → List ℕ → Bool
+canJoin u i v j update id = leb (length u + length v) (length update) && leb (length i + length j) (length id)
 
--- the union of both updates, lifted beside it: how many words of each, and the update's buffer
+-- how many words they hold then
 unfoldable pub joinedCounts : List ℕ → List ℕ → List ℕ → List ℕ → List ℕ → List ℕ → Joined
-joinedCounts u i v j update id = record {
-  update = liftedCount (joinedId i j id) (unitedIn u v update) (united u v update);
-  id = joinedIds i j id;
-}
+joinedCounts u i v j update id =
+    cond (canJoin u i v j update id) (record { fits = true; update = length (joinedUpdate u i v j); id = length (joinedId i j) })
+    (record { fits = false; update = 0; id = 0 })
 
+-- and what: the words at the front, zeros in the place of what is gone, and the rest as it was
 unfoldable pub joinedUpdateIn : List ℕ → List ℕ → List ℕ → List ℕ → List ℕ → List ℕ → List ℕ
-joinedUpdateIn u i v j update id = liftedIn (joinedId i j id) (unitedIn u v update) (united u v update)
+joinedUpdateIn u i v j update id = cond (canJoin u i v j update id) (over (cleared (length (merge u v)) (joinedUpdate u i v j)) update) update
+
+unfoldable pub joinedIdIn : List ℕ → List ℕ → List ℕ → List ℕ → List ℕ → List ℕ → List ℕ
+joinedIdIn u i v j update id = cond (canJoin u i v j update id) (over (cleared (length (merge i j)) (joinedId i j)) id) id
 
 -- ---- what the private functions do
 

@@ -1,21 +1,23 @@
 // Union and reduction of names in rising order, as lent words: each function goes once over its words.
 ghost use mathlib.Core.Path.{_≡_};
 ghost use Prim.Native.Nat.{_≤_, _<_, _+_, _-_};
-ghost use lib.ListN.{length, drop, replicate};
+ghost use lib.ListN.{length, take, drop, replicate};
 ghost use lib.Seq.{sets};
-ghost use Rattle.unions.specs.Unions.{opt, stack, united, unitedIn, push, reducedCount, reducedIn, seek, root, onceOn, liftedCount, liftedIn, joinedCounts, joinedUpdateIn, joinedIdIn};
+ghost use Rattle.rules.specs.Packed.{over};
+ghost use Rattle.unions.specs.Unions.{opt, stack, cleared, merge, push, reduced, seek, root, onceOn, lifted, joinedCounts, joinedUpdateIn, joinedIdIn};
 use strings::are_siblings;
-use strings::last;
+use strings::begins;
 
-// How many words the update and the id of a join have.
+// What a join leaves: whether both buffers have room for it, and how many words the update and the id have then.
 pub struct Joined {
+    pub fits: bool,
     pub update: usize,
     pub id: usize,
 }
 
 // The join of the stamps [u|i] and [v|j]: the union of both ids, reduced, at the front of `id`, and the union of both updates, lifted beside it, at the
 // front of `update`; zeros in the place of what reduction takes away, and the rest of both buffers stays. Gives how many words each has.
-// A buffer has to have room for the words of both names. Where it has not, it stays as it is, and its count is 0.
+// Each buffer has to have room for the words of both names. Where one has not, it is told, and both stay as they are.
 pub fn join(
     u: &[u64],
     i: &[u64],
@@ -26,24 +28,31 @@ pub fn join(
 ) -> Joined
     ensures { λ r. ⌜ (r ≡ joinedCounts (now (u .entry)) (now (i .entry)) (now (v .entry)) (now (j .entry)) (now (update .entry)) (now (id .entry)))
         × (now (update .exit) ≡ joinedUpdateIn (now (u .entry)) (now (i .entry)) (now (v .entry)) (now (j .entry)) (now (update .entry)) (now (id .entry)))
-        × (now (id .exit) ≡ joinedIdIn (now (i .entry)) (now (j .entry)) (now (id .entry))) ⌝ }
+        × (now (id .exit) ≡ joinedIdIn (now (u .entry)) (now (i .entry)) (now (v .entry)) (now (j .entry)) (now (update .entry)) (now (id .entry))) ⌝ }
 {
+    if update.len() < u.len() + v.len() || id.len() < i.len() + j.len() {
+        return Joined {
+            fits: false,
+            update: 0,
+            id: 0,
+        };
+    }
     let n = unite(i, j, id);
     let k = reduce(id, n);
     let m = unite(u, v, update);
     let c = lift(&id[..k], update, m);
-    Joined { update: c, id: k }
+    Joined {
+        fits: true,
+        update: c,
+        id: k,
+    }
 }
 
 // The union of m and n at the front of the buffer; the rest of it stays. Gives how many words are written.
-// The buffer has to have room for the words of both. Where it has not, nothing is written, and 0 given.
-pub fn unite(m: &[u64], n: &[u64], out: &mut [u64]) -> usize
-    ensures { λ r. ⌜ (r ≡ united (now (m .entry)) (now (n .entry)) (now (out .entry)))
-        × (now (out .exit) ≡ unitedIn (now (m .entry)) (now (n .entry)) (now (out .entry))) ⌝ }
+fn unite(m: &[u64], n: &[u64], out: &mut [u64]) -> usize
+    requires { ⌜ length (now m) + length (now n) ≤ length (now out) ⌝ }
+    ensures { λ r. ⌜ (r ≡ length (merge (now (m .entry)) (now (n .entry)))) × (now (out .exit) ≡ over (merge (now (m .entry)) (now (n .entry))) (now (out .entry))) ⌝ }
 {
-    if out.len() < m.len() + n.len() {
-        return 0;
-    }
     let mut i = 0;
     let mut j = 0;
     let mut k = 0;
@@ -51,10 +60,10 @@ pub fn unite(m: &[u64], n: &[u64], out: &mut [u64]) -> usize
         let s = m[i];
         let t = n[j];
         if s < t {
-            k = put(out, k, last(s) < t, s);
+            k = put(out, k, !begins(s, t), s);
             i += 1;
         } else {
-            k = put(out, k, last(t) < s, t);
+            k = put(out, k, !begins(t, s), t);
             j += 1;
         }
     }
@@ -63,13 +72,10 @@ pub fn unite(m: &[u64], n: &[u64], out: &mut [u64]) -> usize
 }
 
 // The first words as reduction leaves an id; zeros in the place of those that are gone, and the rest of the buffer stays. Gives how many are left.
-// Where the buffer has not so many words, it stays as it is, and 0 is given.
-pub fn reduce(id: &mut [u64], count: usize) -> usize
-    ensures { λ r. ⌜ (r ≡ reducedCount (now (id .entry)) count) × (now (id .exit) ≡ reducedIn (now (id .entry)) count) ⌝ }
+fn reduce(id: &mut [u64], count: usize) -> usize
+    requires { ⌜ count ≤ length (now id) ⌝ }
+    ensures { λ r. ⌜ (r ≡ length (reduced (take count (now (id .entry))))) × (now (id .exit) ≡ over (cleared count (reduced (take count (now (id .entry))))) (now (id .entry))) ⌝ }
 {
-    if id.len() < count {
-        return 0;
-    }
     let mut k = 0;
     let mut i = 0;
     while i < count {
@@ -82,13 +88,12 @@ pub fn reduce(id: &mut [u64], count: usize) -> usize
 }
 
 // The first words of an update as reduction leaves them beside the reduced id; zeros in the place of those that are gone, and the rest of the
-// buffer stays. Gives how many are left. Where the buffer has not so many words, it stays as it is, and 0 is given.
-pub fn lift(id: &[u64], u: &mut [u64], count: usize) -> usize
-    ensures { λ r. ⌜ (r ≡ liftedCount (now (id .entry)) (now (u .entry)) count) × (now (u .exit) ≡ liftedIn (now (id .entry)) (now (u .entry)) count) ⌝ }
+// buffer stays. Gives how many are left.
+fn lift(id: &[u64], u: &mut [u64], count: usize) -> usize
+    requires { ⌜ count ≤ length (now u) ⌝ }
+    ensures { λ r. ⌜ (r ≡ length (lifted (now (id .entry)) (take count (now (u .entry)))))
+        × (now (u .exit) ≡ over (cleared count (lifted (now (id .entry)) (take count (now (u .entry))))) (now (u .entry))) ⌝ }
 {
-    if u.len() < count {
-        return 0;
-    }
     let mut j = 0;
     let mut k = 0;
     let mut i = 0;
@@ -108,7 +113,7 @@ fn seek(id: &[u64], j: usize, r: u64) -> usize
     ensures { λ i. ⌜ (i ≤ length (now (id .entry))) × (drop i (now (id .entry)) ≡ seek (drop j (now (id .entry))) r) ⌝ }
 {
     let mut i = j;
-    while i < id.len() && last(id[i]) < r {
+    while i < id.len() && id[i] < r && !begins(id[i], r) {
         i += 1;
     }
     i

@@ -6,13 +6,13 @@ use mathlib.Core.Logic.{_⊎_, ⊎-elim}
 use Prim.Native.Nat.{ℕ, _+_, _-_, _%_, _≤_, _<_}
 use native.Mathlib.Omega.{arith}
 use native.Mathlib.Numerals.{add-one}
-use borrow.Author.Tests.{lt-ltb, le-ltb, lt-leb, le-leb}
-use lib.Dec.{eqb, leb}
+use borrow.Author.Tests.{lt-ltb, le-ltb}
+use lib.Dec.{eqb}
 use lib.ListN.{length, getD, drop, length-drop, drop-of-length-le}
 use lib.Seq.{drop-cons}
 use Rattle.rules.specs.Strings.{siblings, strOf}
 use Rattle.rules.specs.Names.{any}
-use Rattle.strings.specs.Words.{lastOf}
+use Rattle.strings.specs.Words.{begins}
 use Rattle.walks.specs.Walks.{atLeast, heads, belowWalk, overlapFrom, overlapWalk, unknownWalk, hasTwins, isLong}
 use Rattle.laws.proofs.Words.{str-length}
 
@@ -41,7 +41,7 @@ module _ (s : ℕ) (n : List ℕ) (j : ℕ) where
   unfolding atLeast
   none-left h = ap (atLeast s) (from-end n j h)
 
-  pub heads-at : j < length n → heads s (drop j n) ≡ leb (getD n j 0) (lastOf s)
+  pub heads-at : j < length n → heads s (drop j n) ≡ begins s (getD n j 0)
   unfolding heads
   heads-at h = ap (heads s) (from-cons n j h)
 
@@ -71,7 +71,7 @@ module _ (s : ℕ) (m n : List ℕ) (j : ℕ) where
   below-none h = ap (belowFrom s m) (none-left s n j h)
 
   -- the string at j extends s, or does not
-  pub below-at : (b : Bool) → j < length n → s ≤ getD n j 0 → leb (getD n j 0) (lastOf s) ≡ b
+  pub below-at : (b : Bool) → j < length n → s ≤ getD n j 0 → begins s (getD n j 0) ≡ b
       → belowFrom s m (atLeast s (drop j n)) ≡ (b && belowWalk m (drop j n))
   below-at b h l e = ap (belowFrom s m) (stays s n j h l) ∙ ap (λ (x : Bool). x && belowWalk m (drop j n)) (heads-at s n j h ∙ e)
 
@@ -99,27 +99,27 @@ module _ (m n : List ℕ) (i j : ℕ) where
 
     -- the lower one is the string at i: the other extends it, or it is passed
     module _ (l : here < there) where
-      pub lower-hit : there ≤ lastOf here → overlapWalk (drop i m) (drop j n) ≡ true
+      pub lower-hit : begins here there ≡ true → overlapWalk (drop i m) (drop j n) ≡ true
       unfolding overlapWalk overlapFrom
-      lower-hit e = overlap-both ∙ rw (lt-ltb here there l, le-leb there (lastOf here) e)
+      lower-hit e = overlap-both ∙ rw (lt-ltb here there l, e)
 
-      pub lower-miss : lastOf here < there → overlapWalk (drop i m) (drop j n) ≡ overlapWalk (drop (i + 1) m) (drop j n)
+      pub lower-miss : begins here there ≡ false → overlapWalk (drop i m) (drop j n) ≡ overlapWalk (drop (i + 1) m) (drop j n)
       unfolding overlapWalk overlapFrom
       lower-miss e =
           overlap-both
-          ∙ rw (lt-ltb here there l, lt-leb there (lastOf here) e) (ap (overlapWalk (drop (i + 1) m)) (sym (from-cons n j k)))
+          ∙ rw (lt-ltb here there l, e) (ap (overlapWalk (drop (i + 1) m)) (sym (from-cons n j k)))
 
     -- it is the string at j, or they are the same
     module _ (l : there ≤ here) where
-      pub upper-hit : here ≤ lastOf there → overlapWalk (drop i m) (drop j n) ≡ true
+      pub upper-hit : begins there here ≡ true → overlapWalk (drop i m) (drop j n) ≡ true
       unfolding overlapWalk overlapFrom
-      upper-hit e = overlap-both ∙ rw (le-ltb here there l, le-leb here (lastOf there) e)
+      upper-hit e = overlap-both ∙ rw (le-ltb here there l, e)
 
-      pub upper-miss : lastOf there < here → overlapWalk (drop i m) (drop j n) ≡ overlapWalk (drop i m) (drop (j + 1) n)
+      pub upper-miss : begins there here ≡ false → overlapWalk (drop i m) (drop j n) ≡ overlapWalk (drop i m) (drop (j + 1) n)
       unfolding overlapWalk overlapFrom
       upper-miss e =
           overlap-both
-          ∙ rw (le-ltb here there l, lt-leb here (lastOf there) e) (ap (λ (o : List ℕ). overlapWalk o (drop (j + 1) n)) (sym (from-cons m i h)))
+          ∙ rw (le-ltb here there l, e) (ap (λ (o : List ℕ). overlapWalk o (drop (j + 1) n)) (sym (from-cons m i h)))
 
 -- ---- unknown
 
@@ -159,15 +159,15 @@ module _ (u i v : List ℕ) (a b c : ℕ) (h : a < length u) (j : ℕ) (e : drop
 
   module _ (g : j < length i) where
     -- it is not below i
-    pub unknown-passed : lastOf asked < getD i j 0
+    pub unknown-passed : begins asked (getD i j 0) ≡ false
         → unknownWalk (drop a u) (drop b i) (drop c v) ≡ unknownWalk (drop (a + 1) u) (drop j i) (drop c v)
-    unknown-passed l = unknown-turn ∙ ap answer (heads-at asked i j g ∙ lt-leb (getD i j 0) (lastOf asked) l)
+    unknown-passed l = unknown-turn ∙ ap answer (heads-at asked i j g ∙ l)
 
     -- it is, and is asked of the words of v from k on
-    module _ (l : getD i j 0 ≤ lastOf asked) (k : ℕ) (f : drop k v ≡ atLeast asked (drop c v)) where
+    module _ (l : begins asked (getD i j 0) ≡ true) (k : ℕ) (f : drop k v ≡ atLeast asked (drop c v)) where
       unknown-at : unknownWalk (drop a u) (drop b i) (drop c v) ≡ (not (heads asked (drop k v)) || unknownWalk (drop (a + 1) u) (drop j i) (drop k v))
       unknown-at =
-          unknown-turn ∙ ap answer (heads-at asked i j g ∙ le-leb (getD i j 0) (lastOf asked) l)
+          unknown-turn ∙ ap answer (heads-at asked i j g ∙ l)
           ∙ ap (λ (o : List ℕ). not (heads asked o) || unknownWalk (drop (a + 1) u) (drop j i) o) (sym f)
 
       abbrev then : Bool → Bool
@@ -177,13 +177,13 @@ module _ (u i v : List ℕ) (a b c : ℕ) (h : a < length u) (j : ℕ) (e : drop
       pub unknown-left : length v ≤ k → unknownWalk (drop a u) (drop b i) (drop c v) ≡ true
       unknown-left o = unknown-at ∙ ap then (heads-none asked v k o)
 
-      pub unknown-found : k < length v → lastOf asked < getD v k 0 → unknownWalk (drop a u) (drop b i) (drop c v) ≡ true
-      unknown-found o p = unknown-at ∙ ap then (heads-at asked v k o ∙ lt-leb (getD v k 0) (lastOf asked) p)
+      pub unknown-found : k < length v → begins asked (getD v k 0) ≡ false → unknownWalk (drop a u) (drop b i) (drop c v) ≡ true
+      unknown-found o p = unknown-at ∙ ap then (heads-at asked v k o ∙ p)
 
       -- it is known
-      pub unknown-known : k < length v → getD v k 0 ≤ lastOf asked
+      pub unknown-known : k < length v → begins asked (getD v k 0) ≡ true
           → unknownWalk (drop a u) (drop b i) (drop c v) ≡ unknownWalk (drop (a + 1) u) (drop j i) (drop k v)
-      unknown-known o p = unknown-at ∙ ap then (heads-at asked v k o ∙ le-leb (getD v k 0) (lastOf asked) p)
+      unknown-known o p = unknown-at ∙ ap then (heads-at asked v k o ∙ p)
 
 -- ---- twins
 

@@ -8,7 +8,7 @@ use mathlib.Core.Option.{Option, some}
 use Prim.Native.Nat.{ℕ, _≤_, _<_}
 use native.Mathlib.Omega.{arith}
 use borrow.Author.Tests.{lt-ltb, ltb-true, ltb-false}
-use lib.Dec.{eqb, leb, ltb}
+use lib.Dec.{eqb, ltb}
 use lib.ListN.{length}
 use Rattle.rules.specs.Limits.{narrow}
 use Rattle.rules.specs.Strings.{Str, prefix, less, siblings, strOf, isWord}
@@ -18,9 +18,9 @@ use Rattle.rules.specs.Refusals.{touches, unknownTo}
 use Rattle.laws.proofs.Tests.{not-true, and-left, and-right, In, none-any}
 use Rattle.laws.proofs.Rising.{less-trans, less-apart, rising-head, rising-tail}
 use Rattle.laws.proofs.Pairs.{firstTwins, neighbour-pair}
-use Rattle.strings.specs.Words.{lastOf}
+use Rattle.strings.specs.Words.{begins}
 use Rattle.strings.proofs.Order.{prefix-le, less-lt, le-less}
-use Rattle.strings.proofs.Ends.{last-prefix}
+use Rattle.strings.proofs.Fronts.{begins-prefix}
 use Rattle.walks.specs.Walks.{strs, atLeast, heads, belowWalk, overlapFrom, overlapWalk, unknownWalk, hasTwins, isLong}
 
 -- what is passed for s is passed for any word not below s
@@ -136,7 +136,7 @@ module _ (most : ℕ) (small : most ≤ 58) where
           ∙ sym
           (ap (λ (x : Bool). x || any (prefix (strOf s)) (strs n))
           (not-true (λ (p : prefix (strOf s) (strOf t) ≡ true). omega (arith, ltb-true t s e, prefix-le most small s t h ht p))))
-      by false e ih = let l = ltb-false t s e in last-prefix most small s h t ht l ∙ at (prefix (strOf s) (strOf t)) refl l
+      by false e ih = let l = ltb-false t s e in begins-prefix most small s t h ht l ∙ at (prefix (strOf s) (strOf t)) refl l
 
   pub below-walk : (m n : List ℕ) → all (isWord most) m ≡ true → all (isWord most) n ≡ true → rising (strs m) ≡ true → rising (strs n) ≡ true
       → belowWalk m n ≡ below (strs m) (strs n)
@@ -207,13 +207,13 @@ module _ (most : ℕ) (small : most ≤ 58) where
           ∙ overlaps-swap (strs n) (strs (s ∷ m)))
 
       by : (b : Bool) → ltb s t ≡ b → overlapFrom s (overlapWalk m) n ≡ overlaps (strs (s ∷ m)) (strs n)
-          → cond b (leb t (lastOf s) || overlapWalk m (t ∷ n)) (leb s (lastOf t) || overlapFrom s (overlapWalk m) n) ≡ overlaps (strs (s ∷ m)) (strs (t ∷ n))
+          → cond b (begins s t || overlapWalk m (t ∷ n)) (begins t s || overlapFrom s (overlapWalk m) n) ≡ overlaps (strs (s ∷ m)) (strs (t ∷ n))
       by true e rest =
           let l = ltb-true s t e in
-          ap (λ (x : Bool). x || overlapWalk m (t ∷ n)) (last-prefix most small s hs t ht (omega arith)) ∙ lower (prefix (strOf s) (strOf t)) refl l
+          ap (λ (x : Bool). x || overlapWalk m (t ∷ n)) (begins-prefix most small s t hs ht (omega arith)) ∙ lower (prefix (strOf s) (strOf t)) refl l
       by false e rest =
           let l = ltb-false s t e in
-          ap (λ (x : Bool). x || overlapFrom s (overlapWalk m) n) (last-prefix most small t ht s hs l) ∙ upper (prefix (strOf t) (strOf s)) refl l rest
+          ap (λ (x : Bool). x || overlapFrom s (overlapWalk m) n) (begins-prefix most small t s ht hs l) ∙ upper (prefix (strOf t) (strOf s)) refl l rest
 
   pub overlap-walk : (m n : List ℕ) → all (isWord most) m ≡ true → all (isWord most) n ≡ true → rising (strs m) ≡ true → rising (strs n) ≡ true
       → overlapWalk m n ≡ (touches (strs m) (strs n) || touches (strs n) (strs m))

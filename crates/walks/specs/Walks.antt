@@ -4,7 +4,7 @@
 use mathlib.Core.Bool.{Bool, true, false, cond, not, _&&_, _||_}
 use mathlib.Core.List.{List, [], _∷_, map}
 use Prim.Native.Nat.{ℕ}
-use lib.Dec.{eqb, leb, ltb}
+use lib.Dec.{eqb, ltb}
 use lib.ListN.{length, take}
 use Rattle.rules.specs.Limits.{narrow}
 use Rattle.rules.specs.Strings.{siblings, strOf}
@@ -16,7 +16,7 @@ use Rattle.rules.specs.declared.Words.{Words}
 use Rattle.rules.specs.declared.Refusal.the-variants.{Overlap, Unseen}
 use Rattle.rules.specs.declared.Answer.{Answer}
 use Rattle.rules.specs.declared.Compared.{Compared}
-use Rattle.strings.specs.Words.{lastOf}
+use Rattle.strings.specs.Words.{begins}
 
 -- the words that a record counts
 abbrev pub front : Words → List ℕ
@@ -31,10 +31,10 @@ unfoldable pub atLeast : ℕ → List ℕ → List ℕ
 atLeast s [] = []
 atLeast s (t ∷ n) = cond (ltb t s) (atLeast s n) (t ∷ n)
 
--- the first string extends s: of the words not below s those of such strings are not above the last that begins with its digits
+-- the first string extends s: of words that are not below s, those that share its digits do
 unfoldable pub heads : ℕ → List ℕ → Bool
 heads s [] = false
-heads s (t ∷ n) = leb t (lastOf s)
+heads s (t ∷ n) = begins s t
 
 -- each string of m is a prefix of the first one of n that is not below it
 unfoldable pub belowWalk : List ℕ → List ℕ → Bool
@@ -50,7 +50,7 @@ unknownWalk (r ∷ u) i v =
 -- s stands before the words that k is about: of s and the first of n the lower one is held against the other, and passed
 unfoldable pub overlapFrom : ℕ → (List ℕ → Bool) → List ℕ → Bool
 overlapFrom s k [] = false
-overlapFrom s k (t ∷ n) = cond (ltb s t) (leb t (lastOf s) || k (t ∷ n)) (leb s (lastOf t) || overlapFrom s k n)
+overlapFrom s k (t ∷ n) = cond (ltb s t) (begins s t || k (t ∷ n)) (begins t s || overlapFrom s k n)
 
 -- some string of one is a prefix of a string of the other: one merge of both
 unfoldable pub overlapWalk : List ℕ → List ℕ → Bool

@@ -10,7 +10,7 @@ use rules::Refusal;
 use rules::Verdict;
 use strings::DIGITS;
 use strings::are_siblings;
-use strings::last;
+use strings::begins;
 
 // What two lawful stamps that meet are refused for: 8, then 9.
 pub fn meet(u: &[u64], i: &[u64], v: &[u64], j: &[u64]) -> Answer
@@ -58,7 +58,7 @@ pub fn is_below(m: &[u64], n: &[u64]) -> bool
             }
             j += 1;
         }
-        if last(s) < n[j] {
+        if !begins(s, n[j]) {
             ok = false;
             break 'each;
         }
@@ -77,12 +77,12 @@ pub fn is_overlapping(m: &[u64], n: &[u64]) -> bool
         let s = m[i];
         let t = n[j];
         if s < t {
-            if t <= last(s) {
+            if begins(s, t) {
                 return true;
             }
             i += 1;
         } else {
-            if s <= last(t) {
+            if begins(t, s) {
                 return true;
             }
             j += 1;
@@ -128,17 +128,16 @@ fn is_unknown(u: &[u64], i: &[u64], v: &[u64]) -> bool
     let mut c = 0;
     while a < u.len() {
         let r = u[a];
-        b = seek(i, b, r);
+        b = reach(i, b, r);
         if i.len() <= b {
             return false;
         }
-        let end = last(r);
-        if i[b] <= end {
-            c = seek(v, c, r);
+        if begins(r, i[b]) {
+            c = reach(v, c, r);
             if v.len() <= c {
                 return true;
             }
-            if end < v[c] {
+            if !begins(r, v[c]) {
                 return true;
             }
         }
@@ -164,7 +163,7 @@ fn judged(u: &[u64], v: &[u64]) -> Verdict
 }
 
 // The first place from `from` on whose word is not below s.
-fn seek(n: &[u64], from: usize, s: u64) -> usize
+fn reach(n: &[u64], from: usize, s: u64) -> usize
     ensures { λ r. ⌜ drop r (now (n .entry)) ≡ atLeast s (drop from (now (n .entry))) ⌝ }
 {
     let mut j = from;

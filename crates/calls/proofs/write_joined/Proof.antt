@@ -80,7 +80,7 @@ module _ (u i v j : List ℕ) (x : Lent u i) (y : Lent v j) where
 
   -- the join in the buffers
   told : (r : Joined) (us is : List ℕ) → r ≡ joinedCounts u i v j (replicate room 0) (replicate room 0)
-      → us ≡ joinedUpdateIn u i v j (replicate room 0) (replicate room 0) → is ≡ joinedIdIn i j (replicate room 0) → Told (join s t) r us is
+      → us ≡ joinedUpdateIn u i v j (replicate room 0) (replicate room 0) → is ≡ joinedIdIn u i v j (replicate room 0) (replicate room 0) → Told (join s t) r us is
   told r us is e f g =
       let zeros = replicate {A = ℕ} room 0 in
       let counts : joinedCounts (front (x .of .update)) (front (x .of .id)) (front (y .of .update)) (front (y .of .id)) zeros zeros ≡ joinedCounts u i v j zeros zeros =
@@ -88,7 +88,8 @@ module _ (u i v j : List ℕ) (x : Lent u i) (y : Lent v j) where
       let updates : joinedUpdateIn (front (x .of .update)) (front (x .of .id)) (front (y .of .update)) (front (y .of .id)) zeros zeros
       ≡ joinedUpdateIn u i v j zeros zeros =
       λ k. joinedUpdateIn (x .update k) (x .id k) (y .update k) (y .id k) zeros zeros in
-      let ids : joinedIdIn (front (x .of .id)) (front (y .of .id)) zeros ≡ joinedIdIn i j zeros = λ k. joinedIdIn (x .id k) (y .id k) zeros in
+      let ids : joinedIdIn (front (x .of .update)) (front (x .of .id)) (front (y .of .update)) (front (y .of .id)) zeros zeros ≡ joinedIdIn u i v j zeros zeros =
+      λ k. joinedIdIn (x .update k) (x .id k) (y .update k) (y .id k) zeros zeros in
       subst (λ (z : Stamp). Told z r us is) (ap₂ join s-is t-is)
       (records-joined (x .of) (y .of) (x .stored) (y .stored) r us is (e ∙ sym counts) (f ∙ sym updates) (g ∙ sym ids))
 

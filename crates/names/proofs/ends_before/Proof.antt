@@ -1,21 +1,36 @@
--- `ends_before` says whether the string of a comes before that of b: `last-less`. Assumes nothing.
+-- `ends_before` says whether the string of a comes before that of b: `begins-less`. Assumes nothing.
 use borrow.Author.Needs.{needs}
-use mathlib.Core.Path.{ap, _∙_}
+use borrow.Author.Tests.{lt-ltb, le-ltb}
+use mathlib.Core.Path.{_≡_, ap, _∙_}
+use mathlib.Core.Bool.{Bool, true, false, not, _&&_}
 use native.Mathlib.Omega.{arith}
 use Prim.Native.Nat.{ℕ}
 use lib.Dec.{ltb}
 use Rattle.rules.specs.Limits.{narrow}
-use Rattle.strings.proofs.Ends.{last-less}
+use Rattle.rules.specs.Strings.{less, strOf, isWord}
+use Rattle.strings.specs.Words.{begins}
+use Rattle.strings.proofs.Fronts.{begins-less}
 use Rattle.names.proofs.ends_before.Statement.{statement}
 use Rattle.names.proofs.ends_before.Tie as tie
 
-last-requires : tie.Need-last-requires
-last-requires c κs = search needs
+-- what the test of the words said, and then that of their digits
+ordered : (a b : ℕ) (x : Bool) → isWord (narrow .digits) a ≡ true → isWord (narrow .digits) b ≡ true → ltb a b ≡ x
+    → (x && not (begins a b)) ≡ less (strOf a) (strOf b)
+ordered a b x ha hb e = rw e at (begins-less (narrow .digits) (omega arith) a b ha hb)
+
+begins-requires : tie.Need-begins-requires
+begins-requires c κs = search needs
 
 returns : tie.Need-returns
 returns c =
+    let g = c .before .before in
+    ap not (c .begins .ensures) ∙ ordered (g .args .a) (g .args .b) true (g .pre .0) (g .pre .1) (lt-ltb (g .args .a) (g .args .b) (c .before .if1 .taken))
+
+returns-2 : tie.Need-returns-2
+returns-2 c =
     let g = c .before in
-    ap (λ (x : ℕ). ltb x (g .args .b)) (c .last .ensures) ∙ last-less (narrow .digits) (omega arith) (g .args .a) (g .pre .0) (g .args .b) (g .pre .1)
+    let e = le-ltb (g .args .a) (g .args .b) (c .if1 .left) in
+    e ∙ ordered (g .args .a) (g .args .b) false (g .pre .0) (g .pre .1) e
 
 pub ends-before-spec : {M : Type 1} → statement M
-ends-before-spec = tie.close (tie.spec last-requires returns)
+ends-before-spec = tie.close (tie.spec begins-requires returns returns-2)

@@ -6,8 +6,8 @@ use Prim.Native.Nat.{_-_, _≤_}
 use native.Mathlib.Omega.{arith}
 use borrow.Author.Needs.{needs}
 use lib.ListN.{length, take, drop}
-use Rattle.unions.specs.Unions.{stack, lift, lifted, liftedCount, liftedIn}
-use Rattle.unions.proofs.Stacks.{turn-clears, front-none}
+use Rattle.unions.specs.Unions.{stack, lift, lifted}
+use Rattle.unions.proofs.Stacks.{turn-clears}
 use Rattle.unions.proofs.Seeks.{onceAll, lift-more, lift-end}
 use Rattle.unions.proofs.lift.Statement.{statement}
 use Rattle.unions.proofs.lift.Tie as tie
@@ -19,12 +19,6 @@ Inv-loop id u₀ count j₀ k₀ i₀ u j k i =
 
 abbrev μ-loop : tie.MeasureT-loop
 μ-loop id u₀ count j₀ k₀ i₀ u j k i = count - i
-
-returns : tie.Need-returns Inv-loop μ-loop
-unfolding liftedCount liftedIn
-returns c =
-    let g = c .before .before .before .args in
-    front-none (g .u .now) (g .count) (lifted (g .id .now) (take (g .count) (g .u .now))) (omega arith)
 
 loop-holds : tie.Need-loop-holds Inv-loop μ-loop
 unfolding stack
@@ -57,7 +51,7 @@ loop-again c =
     let x = p .before in
     let f = x .before .before in
     let l = f .before .before .before in
-    let g = l .before .before .before .before .args in
+    let g = l .before .before .before .args in
     let more =
     lift-more (g .id .now) (g .u .now) (g .count) (omega arith) (l .loop .u) (p .put-once .last .0) (l .loop .j) (f .seek .result) (l .loop .k)
     (p .put-once .result) (l .loop .i) (x .root .result) (omega arith) (omega arith) (l .loop .inv .4) (f .seek .ensures .1) (x .root .ensures)
@@ -70,12 +64,11 @@ clear-requires c κs = search needs
 same-length : tie.Need-same-length Inv-loop μ-loop
 same-length c = search needs
 
-returns-2 : tie.Need-returns-2 Inv-loop μ-loop
-unfolding liftedCount liftedIn
-returns-2 c =
+returns : tie.Need-returns Inv-loop μ-loop
+returns c =
     let p = c .before .before in
     let l = p .before .before .before in
-    let g = l .before .before .before .before .args in
+    let g = l .before .before .before .args in
     let start = g .u .now in
     let d = l .loop .u in
     let end : l .loop .i ≡ g .count = omega arith in
@@ -90,7 +83,6 @@ lift-spec =
     (tie.spec
     Inv-loop
     μ-loop
-    returns
     loop-holds
     mul-r
     slice-read-r
@@ -102,4 +94,4 @@ lift-spec =
     loop-again
     clear-requires
     same-length
-    returns-2)
+    returns)

@@ -6,8 +6,8 @@ use Prim.Native.Nat.{_-_, _≤_}
 use native.Mathlib.Omega.{arith}
 use borrow.Author.Needs.{needs}
 use lib.ListN.{length, take, drop}
-use Rattle.unions.specs.Unions.{pushAll, reduced, reducedCount, reducedIn, stack}
-use Rattle.unions.proofs.Stacks.{turn-more, turn-end, turn-clears, front-none}
+use Rattle.unions.specs.Unions.{pushAll, reduced, stack}
+use Rattle.unions.proofs.Stacks.{turn-more, turn-end, turn-clears}
 use Rattle.unions.proofs.reduce.Statement.{statement}
 use Rattle.unions.proofs.reduce.Tie as tie
 
@@ -18,10 +18,6 @@ Inv-loop id₀ count k₀ i₀ id k i =
 
 abbrev μ-loop : tie.MeasureT-loop
 μ-loop id₀ count k₀ i₀ id k i = count - i
-
-returns : tie.Need-returns Inv-loop μ-loop
-unfolding reducedCount reducedIn
-returns c = let g = c .before .before .args in front-none (g .id .now) (g .count) (reduced (take (g .count) (g .id .now))) (omega arith)
 
 loop-holds : tie.Need-loop-holds Inv-loop μ-loop
 unfolding stack
@@ -46,7 +42,7 @@ loop-again : tie.Need-loop-again Inv-loop μ-loop
 loop-again c =
     let p = c .before .before in
     let l = p .before .before .before .before in
-    let g = l .before .before .before .args in
+    let g = l .before .before .args in
     let more =
     turn-more (g .id .now) (g .count) (omega arith) (l .loop .id) (p .push .last .0) (l .loop .k) (p .push .result) (l .loop .i) (omega arith) (omega arith)
     (l .loop .inv .3) (p .push .ensures .1) (p .push .ensures .2) in
@@ -58,12 +54,11 @@ clear-requires c κs = let l = c .before .before in (omega arith, omega (arith, 
 same-length : tie.Need-same-length Inv-loop μ-loop
 same-length c = search needs
 
-returns-2 : tie.Need-returns-2 Inv-loop μ-loop
-unfolding reducedCount reducedIn
-returns-2 c =
+returns : tie.Need-returns Inv-loop μ-loop
+returns c =
     let p = c .before .before in
     let l = p .before .before .before in
-    let g = l .before .before .before .args in
+    let g = l .before .before .args in
     let d = l .loop .id in
     let end : l .loop .i ≡ g .count = omega arith in
     let rest : drop (g .count) d ≡ drop (g .count) (g .id .now) = rw end at (l .loop .inv .3) in
@@ -77,7 +72,6 @@ reduce-spec =
     (tie.spec
     Inv-loop
     μ-loop
-    returns
     loop-holds
     mul-s
     slice-read-s
@@ -87,4 +81,4 @@ reduce-spec =
     loop-again
     clear-requires
     same-length
-    returns-2)
+    returns)

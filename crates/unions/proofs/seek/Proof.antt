@@ -1,9 +1,10 @@
 -- `unions::seek` meets its contract: the words before index i are passed over, so what is sought from i on is what is sought from j on. Assumes nothing.
 use mathlib.Core.Path.{_≡_, refl, sym, _∙_}
+use mathlib.Core.Logic.{inl, inr}
 use Prim.Native.Nat.{_-_, _≤_}
 use native.Mathlib.Omega.{arith}
 use borrow.Author.Needs.{needs}
-use borrow.Author.Tests.{ltb-true, ltb-false}
+use borrow.Author.Tests.{ltb-true, ltb-false, not-true, not-false}
 use lib.ListN.{length, drop}
 use Rattle.unions.specs.Unions.{seek}
 use Rattle.unions.proofs.Seeks.{seek-next, seek-stop, seek-end}
@@ -19,14 +20,20 @@ abbrev μ-loop : tie.MeasureT-loop
 loop-holds : tie.Need-loop-holds Inv-loop μ-loop
 loop-holds c = (search needs, refl)
 
-mul-last : tie.Need-mul-last Inv-loop μ-loop
-mul-last c = search needs
+mul-if1 : tie.Need-mul-if1 Inv-loop μ-loop
+mul-if1 c = search needs
 
-shared-slice-read-last : tie.Need-shared-slice-read-last Inv-loop μ-loop
-shared-slice-read-last c = search needs
+shared-slice-read-if1 : tie.Need-shared-slice-read-if1 Inv-loop μ-loop
+shared-slice-read-if1 c = search needs
 
-last-requires : tie.Need-last-requires Inv-loop μ-loop
-last-requires c κs = search needs
+mul-begins : tie.Need-mul-begins Inv-loop μ-loop
+mul-begins c = search needs
+
+shared-slice-read-begins : tie.Need-shared-slice-read-begins Inv-loop μ-loop
+shared-slice-read-begins c = search needs
+
+begins-requires : tie.Need-begins-requires Inv-loop μ-loop
+begins-requires c κs = search needs
 
 add-i : tie.Need-add-i Inv-loop μ-loop
 add-i c = search needs
@@ -36,20 +43,33 @@ loop-less c = search needs
 
 loop-again : tie.Need-loop-again Inv-loop μ-loop
 loop-again c =
-    let a = c .before in
-    let l = a .before .before .before in
-    let g = l .before .before .args in
-    (search needs, seek-next (g .id .now) (l .loop .i) (g .r) (omega arith) (omega (arith, a .last .ensures, ltb-true (a .last .result) (g .r) (c .if1 .taken))) ∙ l .loop .inv .1)
+    let b = c .before in
+    let x = b .before .before in
+    let l = x .before .before .before in
+    let g = l .before .before .args in (
+      search needs,
+      seek-next (g .id .now) (l .loop .i) (g .r) (omega arith) (ltb-true _ _ (x .if1 .taken))
+          (sym (b .begins .ensures) ∙ not-true (b .begins .result) (c .if2 .taken)) ∙ l .loop .inv .1,
+    )
 
 returns : tie.Need-returns Inv-loop μ-loop
 returns c =
-    let a = c .before in
-    let l = a .before .before .before in
-    let g = l .before .before .args in
-    (l .loop .inv .0, sym (seek-stop (g .id .now) (l .loop .i) (g .r) (omega arith) (omega (arith, a .last .ensures, ltb-false (a .last .result) (g .r) (c .if1 .left)))) ∙ l .loop .inv .1)
+    let b = c .before in
+    let x = b .before .before in
+    let l = x .before .before .before in
+    let g = l .before .before .args in (
+      l .loop .inv .0,
+      sym (seek-stop (g .id .now) (l .loop .i) (g .r) (omega arith) (inr (sym (b .begins .ensures) ∙ not-false (b .begins .result) (c .if2 .left)))) ∙ l .loop .inv .1,
+    )
 
 returns-2 : tie.Need-returns-2 Inv-loop μ-loop
 returns-2 c =
+    let l = c .before .before .before in
+    let g = l .before .before .args in
+    (l .loop .inv .0, sym (seek-stop (g .id .now) (l .loop .i) (g .r) (omega arith) (inl (ltb-false _ _ (c .if1 .left)))) ∙ l .loop .inv .1)
+
+returns-3 : tie.Need-returns-3 Inv-loop μ-loop
+returns-3 c =
     let l = c .before in
     let g = l .before .before .args in
     (l .loop .inv .0, sym (seek-end (g .id .now) (l .loop .i) (g .r) (omega arith)) ∙ l .loop .inv .1)
@@ -61,11 +81,14 @@ seek-spec =
     Inv-loop
     μ-loop
     loop-holds
-    mul-last
-    shared-slice-read-last
-    last-requires
+    mul-if1
+    shared-slice-read-if1
+    mul-begins
+    shared-slice-read-begins
+    begins-requires
     add-i
     loop-less
     loop-again
     returns
-    returns-2)
+    returns-2
+    returns-3)

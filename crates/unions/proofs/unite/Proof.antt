@@ -9,7 +9,7 @@ use borrow.Author.Needs.{needs}
 use borrow.Author.Tests.{ltb-true, ltb-false}
 use lib.ListN.{length, drop, length-drop}
 use lib.Seq.{sets}
-use Rattle.unions.proofs.Turns.{merges, merges-lower, merges-upper, merges-end, merges-all, united-none}
+use Rattle.unions.proofs.Turns.{merges, merges-lower, merges-upper, merges-end, merges-all}
 use Rattle.unions.proofs.unite.Statement.{statement}
 use Rattle.unions.proofs.unite.Tie as tie
 
@@ -27,12 +27,6 @@ Inv-loop m n out₀ i₀ j₀ k₀ out i j k =
 abbrev μ-loop : tie.MeasureT-loop
 μ-loop m n out₀ i₀ j₀ k₀ out i j k = length m - i + (length n - j)
 
-add-if1 : tie.Need-add-if1 Inv-loop μ-loop
-add-if1 c = search needs
-
-returns : tie.Need-returns Inv-loop μ-loop
-returns c = let g = c .before .before .before .before .args in united-none (g .m .now) (g .n .now) (g .out .now) (omega arith)
-
 loop-holds : tie.Need-loop-holds Inv-loop μ-loop
 loop-holds c = (search needs, search needs, search needs, refl, refl)
 
@@ -48,8 +42,8 @@ mul-t c = search needs
 shared-slice-read-t : tie.Need-shared-slice-read-t Inv-loop μ-loop
 shared-slice-read-t c = search needs
 
-last-requires : tie.Need-last-requires Inv-loop μ-loop
-last-requires c κs = search needs
+begins-requires : tie.Need-begins-requires Inv-loop μ-loop
+begins-requires c κs = search needs
 
 put-requires : tie.Need-put-requires Inv-loop μ-loop
 put-requires c κs = search needs
@@ -67,19 +61,19 @@ loop-again c =
     let x = w .before .before in
     let t = x .before .before .before in
     let l = t .before .before in
-    let g = l .before .before .before .before .before .args in
-    let hj = ltb-true (l .loop .j) (length (g .n .now)) (t .if2 .taken) in (
+    let g = l .before .before .before .before .args in
+    let hj = ltb-true (l .loop .j) (length (g .n .now)) (t .if1 .taken) in (
       search needs,
       omega (arith, hj),
       omega (arith, p .put .ensures .0),
       p .put .kept .0 ∙ l .loop .inv .3,
-      merges-lower (g .m .now) (g .n .now) (l .loop .out) (l .loop .k) (l .loop .i) (l .loop .j) (omega arith) hj (w .last .result) (p .put .result) (p .put .last .0)
-          (x .if3 .taken) (w .last .ensures) (p .put .ensures .1) (p .put .ensures .2)
+      merges-lower (g .m .now) (g .n .now) (l .loop .out) (l .loop .k) (l .loop .i) (l .loop .j) (omega arith) hj (w .begins .result) (p .put .result) (p .put .last .0)
+          (x .if2 .taken) (w .begins .ensures) (p .put .ensures .1) (p .put .ensures .2)
           ∙ l .loop .inv .4,
     )
 
-last-requires-2 : tie.Need-last-requires-2 Inv-loop μ-loop
-last-requires-2 c κs = search needs
+begins-requires-2 : tie.Need-begins-requires-2 Inv-loop μ-loop
+begins-requires-2 c κs = search needs
 
 put-requires-2 : tie.Need-put-requires-2 Inv-loop μ-loop
 put-requires-2 c κs = search needs
@@ -91,7 +85,7 @@ loop-less-2 : tie.Need-loop-less-2 Inv-loop μ-loop
 loop-less-2 c =
     let t = c .before .before .before .before .before .before .before .before in
     let l = t .before .before in
-    omega (arith, ltb-true (l .loop .j) (length (l .before .before .before .before .before .args .n .now)) (t .if2 .taken))
+    omega (arith, ltb-true (l .loop .j) (length (l .before .before .before .before .args .n .now)) (t .if1 .taken))
 
 loop-again-2 : tie.Need-loop-again-2 Inv-loop μ-loop
 loop-again-2 c =
@@ -100,40 +94,40 @@ loop-again-2 c =
     let x = w .before .before in
     let t = x .before .before .before in
     let l = t .before .before in
-    let g = l .before .before .before .before .before .args in
-    let hj = ltb-true (l .loop .j) (length (g .n .now)) (t .if2 .taken) in (
+    let g = l .before .before .before .before .args in
+    let hj = ltb-true (l .loop .j) (length (g .n .now)) (t .if1 .taken) in (
       search needs,
       omega (arith, hj),
       omega (arith, p .put2 .ensures .0),
       p .put2 .kept .0 ∙ l .loop .inv .3,
-      merges-upper (g .m .now) (g .n .now) (l .loop .out) (l .loop .k) (l .loop .i) (l .loop .j) (omega arith) hj (w .last2 .result) (p .put2 .result) (p .put2 .last .0)
-          (x .if3 .left) (w .last2 .ensures) (p .put2 .ensures .1) (p .put2 .ensures .2)
+      merges-upper (g .m .now) (g .n .now) (l .loop .out) (l .loop .k) (l .loop .i) (l .loop .j) (omega arith) hj (w .begins2 .result) (p .put2 .result) (p .put2 .last .0)
+          (x .if2 .left) (w .begins2 .ensures) (p .put2 .ensures .1) (p .put2 .ensures .2)
           ∙ l .loop .inv .4,
     )
 
 copy-requires : tie.Need-copy-requires Inv-loop μ-loop
 copy-requires c κs =
     let l = c .before .before in
-    let g = l .before .before .before .before .before .args in
+    let g = l .before .before .before .before .args in
     (l .loop .inv .0, omega (arith, length-drop (l .loop .i) (g .m .now)))
 
 copy-requires-2 : tie.Need-copy-requires-2 Inv-loop μ-loop
 copy-requires-2 c κs =
     let p = c .before .before .before in
     let l = p .before .before .before in
-    let g = l .before .before .before .before .before .args in
+    let g = l .before .before .before .before .args in
     (l .loop .inv .1, omega (arith, p .copy .ensures .0, p .copy .kept .0, length-drop (l .loop .i) (g .m .now), length-drop (l .loop .j) (g .n .now)))
 
 same-length : tie.Need-same-length Inv-loop μ-loop
 same-length c = search needs
 
-returns-2 : tie.Need-returns-2 Inv-loop μ-loop
-returns-2 c =
+returns : tie.Need-returns Inv-loop μ-loop
+returns c =
     let q = c .before .before in
     let p = q .before .before .before .before in
     let e = p .before .before in
     let l = e .before in
-    let g = l .before .before .before .before .before .args in
+    let g = l .before .before .before .before .args in
     let m = g .m .now in
     let n = g .n .now in
     let o = l .loop .out in
@@ -142,7 +136,7 @@ returns-2 c =
     both (drop (l .loop .i) m) (drop (l .loop .j) n) o k (p .copy .result) (p .copy .last .0) (q .copy2 .result) (q .copy2 .last .0)
     (p .copy .ensures .0) (p .copy .ensures .1) (q .copy2 .ensures .0) (q .copy2 .ensures .1)
     ∙ sym (merges-end m n o k (l .loop .i) (l .loop .j) (⊎-elim (λ h. inl (ltb-false _ _ (h .1 .left))) (λ h. inr (h .left)) (e .loop-test .came)))
-    ∙ l .loop .inv .4 ∙ merges-all m n (g .out .now) (omega arith) in
+    ∙ l .loop .inv .4 ∙ merges-all m n (g .out .now) (l .before .before .before .before .pre) in
     (ap (λ (r : ℕ × List ℕ). r .0) all, ap (λ (r : ℕ × List ℕ). r .1) all)
 
 pub unite-spec : {M : Type 1} → statement M
@@ -151,19 +145,17 @@ unite-spec =
     (tie.spec
     Inv-loop
     μ-loop
-    add-if1
-    returns
     loop-holds
     mul-s
     shared-slice-read-s
     mul-t
     shared-slice-read-t
-    last-requires
+    begins-requires
     put-requires
     add-i
     loop-less
     loop-again
-    last-requires-2
+    begins-requires-2
     put-requires-2
     add-j
     loop-less-2
@@ -171,4 +163,4 @@ unite-spec =
     copy-requires
     copy-requires-2
     same-length
-    returns-2)
+    returns)

@@ -5,9 +5,8 @@ use mathlib.Core.Path.{_≡_, refl, sym, ap, _∙_}
 use mathlib.Core.Bool.{true, false}
 use native.Mathlib.Omega.{arith}
 use Prim.Native.Nat.{_+_, _-_}
-use borrow.Author.Tests.{le-leb, lt-leb}
+use borrow.Author.Tests.{not-true, not-false}
 use lib.ListN.{length, getD, drop}
-use Rattle.strings.specs.Words.{lastOf}
 use Rattle.walks.specs.Walks.{atLeast, belowWalk}
 use Rattle.walks.proofs.Steps.{passed, belowFrom, below-turn, below-end, below-none, below-at}
 use Rattle.walks.proofs.is_below.Statement.{statement}
@@ -65,14 +64,14 @@ loop-again c =
       ap (belowFrom s (drop (e .each .i + 1) m)) (passed s (g .args .n .now) (l .loop .j) (omega arith) (omega (arith, c .if2 .left))) ∙ l .loop .inv .1,
     )
 
-last-requires : tie.Need-last-requires Inv-loop μ-loop Inv-each μ-each
-last-requires c κs = search needs
+mul-begins : tie.Need-mul-begins Inv-loop μ-loop Inv-each μ-each
+mul-begins c = search needs
 
-mul-if3 : tie.Need-mul-if3 Inv-loop μ-loop Inv-each μ-each
-mul-if3 c = search needs
+shared-slice-read-begins : tie.Need-shared-slice-read-begins Inv-loop μ-loop Inv-each μ-each
+shared-slice-read-begins c = search needs
 
-shared-slice-read-if3 : tie.Need-shared-slice-read-if3 Inv-loop μ-loop Inv-each μ-each
-shared-slice-read-if3 c = search needs
+begins-requires : tie.Need-begins-requires Inv-loop μ-loop Inv-each μ-each
+begins-requires c κs = search needs
 
 add-i : tie.Need-add-i Inv-loop μ-loop Inv-each μ-each
 add-i c = search needs
@@ -88,9 +87,10 @@ each-again c =
     let g = e .before .before .before in
     let m = g .args .m .now in
     let s = getD m (e .each .i) 0 in
-    let hit = le-leb (getD (g .args .n .now) (l .loop .j) 0) (lastOf s) (omega (arith, c .if3 .left, c .before .before .last .ensures)) in (
+    let b = c .before .begins in (
       search needs,
-      sym (below-at s (drop (e .each .i + 1) m) (g .args .n .now) (l .loop .j) true (omega arith) (omega (arith, t .if2 .taken)) hit) ∙ l .loop .inv .1,
+      sym (below-at s (drop (e .each .i + 1) m) (g .args .n .now) (l .loop .j) true (omega arith) (omega (arith, t .if2 .taken))
+          (sym (b .ensures) ∙ not-false (b .result) (c .if3 .left))) ∙ l .loop .inv .1,
     )
 
 returns : tie.Need-returns Inv-loop μ-loop Inv-each μ-each
@@ -115,8 +115,9 @@ returns-3 c =
     let g = e .before .before .before in
     let m = g .args .m .now in
     let s = getD m (e .each .i) 0 in
-    let miss = lt-leb (getD (g .args .n .now) (l .loop .j) 0) (lastOf s) (omega (arith, c .if3 .taken, c .before .before .last .ensures)) in
-    sym (below-at s (drop (e .each .i + 1) m) (g .args .n .now) (l .loop .j) false (omega arith) (omega (arith, t .if2 .taken)) miss) ∙ l .loop .inv .1
+    let b = c .before .begins in
+    sym (below-at s (drop (e .each .i + 1) m) (g .args .n .now) (l .loop .j) false (omega arith) (omega (arith, t .if2 .taken))
+    (sym (b .ensures) ∙ not-true (b .result) (c .if3 .taken))) ∙ l .loop .inv .1
 
 pub is-below-spec : {M : Type 1} → statement M
 is-below-spec =
@@ -135,9 +136,9 @@ is-below-spec =
     add-j
     loop-less
     loop-again
-    last-requires
-    mul-if3
-    shared-slice-read-if3
+    mul-begins
+    shared-slice-read-begins
+    begins-requires
     add-i
     each-less
     each-again

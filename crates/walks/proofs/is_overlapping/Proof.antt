@@ -34,8 +34,8 @@ mul-t c = search needs
 shared-slice-read-t : tie.Need-shared-slice-read-t Inv-loop μ-loop
 shared-slice-read-t c = search needs
 
-last-requires : tie.Need-last-requires Inv-loop μ-loop
-last-requires c κs = search needs
+begins-requires : tie.Need-begins-requires Inv-loop μ-loop
+begins-requires c κs = search needs
 
 returns : tie.Need-returns Inv-loop μ-loop
 returns c =
@@ -45,7 +45,7 @@ returns c =
     let g = l .before .before .before .args in
     let hj = ltb-true (l .loop .j) (length (g .n .now)) (t .if1 .taken) in
     sym
-    (lower-hit (g .m .now) (g .n .now) (l .loop .i) (l .loop .j) (omega arith) hj (a .before .if2 .taken) (omega (arith, c .if3 .taken, a .last .ensures)))
+    (lower-hit (g .m .now) (g .n .now) (l .loop .i) (l .loop .j) (omega arith) hj (a .before .if2 .taken) (sym (a .begins .ensures) ∙ c .if3 .taken))
     ∙ l .loop .inv
 
 add-i : tie.Need-add-i Inv-loop μ-loop
@@ -62,11 +62,11 @@ loop-again c =
     let g = l .before .before .before .args in
     let hj = ltb-true (l .loop .j) (length (g .n .now)) (t .if1 .taken) in
     sym
-    (lower-miss (g .m .now) (g .n .now) (l .loop .i) (l .loop .j) (omega arith) hj (a .before .if2 .taken) (omega (arith, c .if3 .left, a .last .ensures)))
+    (lower-miss (g .m .now) (g .n .now) (l .loop .i) (l .loop .j) (omega arith) hj (a .before .if2 .taken) (sym (a .begins .ensures) ∙ c .if3 .left))
     ∙ l .loop .inv
 
-last-requires-2 : tie.Need-last-requires-2 Inv-loop μ-loop
-last-requires-2 c κs = search needs
+begins-requires-2 : tie.Need-begins-requires-2 Inv-loop μ-loop
+begins-requires-2 c κs = search needs
 
 returns-2 : tie.Need-returns-2 Inv-loop μ-loop
 returns-2 c =
@@ -76,7 +76,7 @@ returns-2 c =
     let g = l .before .before .before .args in
     let hj = ltb-true (l .loop .j) (length (g .n .now)) (t .if1 .taken) in
     sym
-    (upper-hit (g .m .now) (g .n .now) (l .loop .i) (l .loop .j) (omega arith) hj (a .before .if2 .left) (omega (arith, c .if4 .taken, a .last2 .ensures)))
+    (upper-hit (g .m .now) (g .n .now) (l .loop .i) (l .loop .j) (omega arith) hj (a .before .if2 .left) (sym (a .begins2 .ensures) ∙ c .if4 .taken))
     ∙ l .loop .inv
 
 add-j : tie.Need-add-j Inv-loop μ-loop
@@ -99,7 +99,7 @@ loop-again-2 c =
     let g = l .before .before .before .args in
     let hj = ltb-true (l .loop .j) (length (g .n .now)) (t .if1 .taken) in
     sym
-    (upper-miss (g .m .now) (g .n .now) (l .loop .i) (l .loop .j) (omega arith) hj (a .before .if2 .left) (omega (arith, c .if4 .left, a .last2 .ensures)))
+    (upper-miss (g .m .now) (g .n .now) (l .loop .i) (l .loop .j) (omega arith) hj (a .before .if2 .left) (sym (a .begins2 .ensures) ∙ c .if4 .left))
     ∙ l .loop .inv
 
 returns-3 : tie.Need-returns-3 Inv-loop μ-loop
@@ -125,12 +125,12 @@ is-overlapping-spec =
     shared-slice-read-s
     mul-t
     shared-slice-read-t
-    last-requires
+    begins-requires
     returns
     add-i
     loop-less
     loop-again
-    last-requires-2
+    begins-requires-2
     returns-2
     add-j
     loop-less-2

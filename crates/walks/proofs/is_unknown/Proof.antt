@@ -1,6 +1,7 @@
 -- `walks::is_unknown` meets its contract: the strings of u from a on, asked of the words of i from b on and of those of v from c on, decide.
 -- Where i has none left, none of u is below it. Assumes nothing.
 use borrow.Author.Needs.{needs}
+use borrow.Author.Tests.{not-true, not-false}
 use mathlib.Core.Path.{_≡_, refl, sym, ap, _∙_}
 use mathlib.Core.Logic.{⊎-elim}
 use native.Mathlib.Omega.{arith}
@@ -26,8 +27,8 @@ mul-r c = search needs
 shared-slice-read-r : tie.Need-shared-slice-read-r Inv-loop μ-loop
 shared-slice-read-r c = search needs
 
-seek-requires : tie.Need-seek-requires Inv-loop μ-loop
-seek-requires c κs = search needs
+reach-requires : tie.Need-reach-requires Inv-loop μ-loop
+reach-requires c κs = search needs
 
 returns : tie.Need-returns Inv-loop μ-loop
 returns c =
@@ -35,51 +36,54 @@ returns c =
     let l = s .before .before .before in
     let g = l .before .before .before .before .args in
     sym
-    (unknown-gone (g .u .now) (g .i .now) (g .v .now) (l .loop .a) (l .loop .b) (l .loop .c) (omega arith) (s .seek .result) (s .seek .ensures)
+    (unknown-gone (g .u .now) (g .i .now) (g .v .now) (l .loop .a) (l .loop .b) (l .loop .c) (omega arith) (s .reach .result) (s .reach .ensures)
     (c .if1 .taken))
     ∙ l .loop .inv
 
-last-requires : tie.Need-last-requires Inv-loop μ-loop
-last-requires c κs = search needs
+mul-begins : tie.Need-mul-begins Inv-loop μ-loop
+mul-begins c = search needs
 
-mul-if2 : tie.Need-mul-if2 Inv-loop μ-loop
-mul-if2 c = search needs
+shared-slice-read-begins : tie.Need-shared-slice-read-begins Inv-loop μ-loop
+shared-slice-read-begins c = search needs
 
-shared-slice-read-if2 : tie.Need-shared-slice-read-if2 Inv-loop μ-loop
-shared-slice-read-if2 c = search needs
+begins-requires : tie.Need-begins-requires Inv-loop μ-loop
+begins-requires c κs = search needs
 
-seek-requires-2 : tie.Need-seek-requires-2 Inv-loop μ-loop
-seek-requires-2 c κs = search needs
+reach-requires-2 : tie.Need-reach-requires-2 Inv-loop μ-loop
+reach-requires-2 c κs = search needs
 
 returns-2 : tie.Need-returns-2 Inv-loop μ-loop
 returns-2 c =
     let k = c .before in
-    let e = k .before .before .before in
-    let s = e .before .before in
+    let x = k .before .before in
+    let s = x .before .before .before in
     let l = s .before .before .before in
     let g = l .before .before .before .before .args in
     sym
-    (unknown-left (g .u .now) (g .i .now) (g .v .now) (l .loop .a) (l .loop .b) (l .loop .c) (omega arith) (s .seek .result) (s .seek .ensures) (e .before .if1 .left)
-    (omega (arith, e .last .ensures, k .before .if2 .taken)) (k .seek2 .result) (k .seek2 .ensures) (c .if3 .taken))
+    (unknown-left (g .u .now) (g .i .now) (g .v .now) (l .loop .a) (l .loop .b) (l .loop .c) (omega arith) (s .reach .result) (s .reach .ensures) (x .before .before .if1 .left)
+    (sym (x .begins .ensures) ∙ k .before .if2 .taken) (k .reach2 .result) (k .reach2 .ensures) (c .if3 .taken))
     ∙ l .loop .inv
 
-mul-if4 : tie.Need-mul-if4 Inv-loop μ-loop
-mul-if4 c = search needs
+mul-begins-2 : tie.Need-mul-begins-2 Inv-loop μ-loop
+mul-begins-2 c = search needs
 
-shared-slice-read-if4 : tie.Need-shared-slice-read-if4 Inv-loop μ-loop
-shared-slice-read-if4 c = search needs
+shared-slice-read-begins-2 : tie.Need-shared-slice-read-begins-2 Inv-loop μ-loop
+shared-slice-read-begins-2 c = search needs
+
+begins-requires-2 : tie.Need-begins-requires-2 Inv-loop μ-loop
+begins-requires-2 c κs = search needs
 
 returns-3 : tie.Need-returns-3 Inv-loop μ-loop
 returns-3 c =
-    let k = c .before .before .before in
-    let e = k .before .before .before in
-    let s = e .before .before in
+    let k = c .before .before .before .before in
+    let x = k .before .before in
+    let s = x .before .before .before in
     let l = s .before .before .before in
     let g = l .before .before .before .before .args in
     sym
-    (unknown-found (g .u .now) (g .i .now) (g .v .now) (l .loop .a) (l .loop .b) (l .loop .c) (omega arith) (s .seek .result) (s .seek .ensures) (e .before .if1 .left)
-    (omega (arith, e .last .ensures, k .before .if2 .taken)) (k .seek2 .result) (k .seek2 .ensures) (c .before .before .if3 .left)
-    (omega (arith, e .last .ensures, c .if4 .taken)))
+    (unknown-found (g .u .now) (g .i .now) (g .v .now) (l .loop .a) (l .loop .b) (l .loop .c) (omega arith) (s .reach .result) (s .reach .ensures) (x .before .before .if1 .left)
+    (sym (x .begins .ensures) ∙ k .before .if2 .taken) (k .reach2 .result) (k .reach2 .ensures) (c .before .before .before .if3 .left)
+    (sym (c .before .begins2 .ensures) ∙ not-true (c .before .begins2 .result) (c .if4 .taken)))
     ∙ l .loop .inv
 
 add-a : tie.Need-add-a Inv-loop μ-loop
@@ -90,27 +94,27 @@ loop-less c = search needs
 
 loop-again : tie.Need-loop-again Inv-loop μ-loop
 loop-again c =
-    let e = c .before .before in
-    let s = e .before .before in
+    let x = c .before in
+    let s = x .before .before .before in
     let l = s .before .before .before in
     let g = l .before .before .before .before .args in
     let u = g .u .now in
     let i = g .i .now in
     let v = g .v .now in
     let a = l .loop .a in
-    let j = s .seek .result in
+    let j = s .reach .result in
     ⊎-elim
     (λ w.
-    ap (λ (x : ℕ). unknownWalk (drop (a + 1) u) (drop j i) (drop x v)) (w .5)
+    ap (λ (x : ℕ). unknownWalk (drop (a + 1) u) (drop j i) (drop x v)) (w .6)
     ∙ sym
-    (unknown-known u i v a (l .loop .b) (l .loop .c) (omega arith) j (s .seek .ensures) (e .before .if1 .left)
-    (omega (arith, e .last .ensures, w .0 .taken)) (w .1 .result) (w .1 .ensures) (w .2 .left) (omega (arith, e .last .ensures, w .4 .left)))
+    (unknown-known u i v a (l .loop .b) (l .loop .c) (omega arith) j (s .reach .ensures) (x .before .before .if1 .left)
+    (sym (x .begins .ensures) ∙ w .0 .taken) (w .1 .result) (w .1 .ensures) (w .2 .left) (sym (w .4 .ensures) ∙ not-false (w .4 .result) (w .5 .left)))
     ∙ l .loop .inv)
     (λ w.
     ap (λ (x : ℕ). unknownWalk (drop (a + 1) u) (drop j i) (drop x v)) (w .1)
     ∙ sym
-    (unknown-passed u i v a (l .loop .b) (l .loop .c) (omega arith) j (s .seek .ensures) (e .before .if1 .left)
-    (omega (arith, e .last .ensures, w .0 .left)))
+    (unknown-passed u i v a (l .loop .b) (l .loop .c) (omega arith) j (s .reach .ensures) (x .before .before .if1 .left)
+    (sym (x .begins .ensures) ∙ w .0 .left))
     ∙ l .loop .inv)
     (c .if2 .came)
 
@@ -129,15 +133,16 @@ is-unknown-spec =
     loop-holds
     mul-r
     shared-slice-read-r
-    seek-requires
+    reach-requires
     returns
-    last-requires
-    mul-if2
-    shared-slice-read-if2
-    seek-requires-2
+    mul-begins
+    shared-slice-read-begins
+    begins-requires
+    reach-requires-2
     returns-2
-    mul-if4
-    shared-slice-read-if4
+    mul-begins-2
+    shared-slice-read-begins-2
+    begins-requires-2
     returns-3
     add-a
     loop-less

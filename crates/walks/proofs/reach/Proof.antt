@@ -1,4 +1,4 @@
--- `walks::seek` meets its contract: what is passed is below s, so what is left without the words below s stays the same. Assumes nothing.
+-- `walks::reach` meets its contract: what is passed is below s, so what is left without the words below s stays the same. Assumes nothing.
 use borrow.Author.Needs.{needs}
 use mathlib.Core.Path.{_≡_, refl, sym, _∙_}
 use native.Mathlib.Omega.{arith}
@@ -6,8 +6,8 @@ use Prim.Native.Nat.{_-_}
 use lib.ListN.{length, drop}
 use Rattle.walks.specs.Walks.{atLeast}
 use Rattle.walks.proofs.Steps.{from-end, passed, stays, none-left}
-use Rattle.walks.proofs.seek.Statement.{statement}
-use Rattle.walks.proofs.seek.Tie as tie
+use Rattle.walks.proofs.reach.Statement.{statement}
+use Rattle.walks.proofs.reach.Tie as tie
 
 abbrev Inv-loop : tie.InvT-loop
 Inv-loop n from s j₀ j = atLeast s (drop j n) ≡ atLeast s (drop from n)
@@ -49,7 +49,7 @@ returns-2 c =
     let n = g .args .n .now in
     from-end n (l .loop .j) (omega arith) ∙ sym (none-left (g .args .s) n (l .loop .j) (omega arith)) ∙ l .loop .inv
 
-pub seek-spec : {M : Type 1} → statement M
-seek-spec =
+pub reach-spec : {M : Type 1} → statement M
+reach-spec =
     tie.close
     (tie.spec Inv-loop μ-loop loop-holds mul-if1 shared-slice-read-if1 returns add-j loop-less loop-again returns-2)
