@@ -30,7 +30,7 @@ refusal-not-done : {r : Refusal} → Refused r ≡ Done → ⊥
 refusal-not-done e = let z : _≡_ {A = ℕ} 0 1 = cc in omega arith
 
 -- where a list of tests refuses nothing, the first of them does not hold, and the others refuse nothing
-pub none-holds : (b : Bool) (r : Refusal) (more : List (Bool × Refusal)) → first ((b, r) ∷ more) ≡ Done → (b ≡ false) × (first more ≡ Done)
+none-holds : (b : Bool) (r : Refusal) (more : List (Bool × Refusal)) → first ((b, r) ∷ more) ≡ Done → (b ≡ false) × (first more ≡ Done)
 unfolding first
 none-holds true r more e = absurd (refusal-not-done e)
 none-holds false r more e = (refl, e)

@@ -7,16 +7,16 @@ use lib.ListN.{take}
 use Rattle.rules.specs.Limits.{narrow}
 use Rattle.rules.specs.Stamps.{Stamp, join}
 use Rattle.rules.specs.Stored.{isStored}
-use Rattle.rules.specs.Refusals.{first, many, overlap, unseen}
+use Rattle.rules.specs.Refusals.{first, many}
 use Rattle.rules.specs.Packed.{Wrote, packed, wrote}
 use Rattle.rules.specs.declared.Record.{Record}
-use Rattle.rules.specs.declared.Refusal.the-variants.{Many, Overlap, Unseen}
+use Rattle.rules.specs.declared.Refusal.the-variants.{Many}
 
--- of the refusals only 8, 9, 7 and 10 are left
+-- of the refusals only 7 and 10 are left
 unfoldable pub wroteJoin : Stamp → Stamp → List ℕ → Wrote
 wroteJoin s t out =
     let j : Stamp = join s t in
-    wrote (first ((overlap s t, Overlap) ∷ (unseen s t, Unseen) ∷ (many narrow j, Many) ∷ [])) (packed narrow j) out
+    wrote (first ((many narrow j, Many) ∷ [])) (packed narrow j) out
 
 -- u and i are the words that count of a lawful stamp's record
 pub record Lent (u i : List ℕ) : Type 0 where

@@ -86,6 +86,10 @@ pub fn join(first: &[u8], second: &[u8], out: &mut [u8]) -> Written
     let l = c.id;
     let m = d.update;
     let n = d.id;
+    let e = walks::meet(&u[..k], &i[..l], &v[..m], &j[..n]);
+    let Answer::Done = e else {
+        return refused(e);
+    };
     write_joined(&u[..k], &i[..l], &v[..m], &j[..n], out)
 }
 
@@ -146,16 +150,12 @@ pub fn room(stamp: &[u8]) -> u64
     strings as u64 * 100 + digits
 }
 
-// The join of two lawful stamps, each in the words of its names: 8, 9, 7 and 10 are left to refuse.
+// The join of two lawful stamps that may meet, each in the words of its names: 7 and 10 are left to refuse.
 fn write_joined(u: &[u64], i: &[u64], v: &[u64], j: &[u64], out: &mut [u8]) -> Written
     requires { ⌜ Lent (now u) (now i) × Lent (now v) (now j) ⌝ }
     ensures { λ w. ⌜ (w ≡ wroteJoin (stampOf (now (u .entry)) (now (i .entry))) (stampOf (now (v .entry)) (now (j .entry))) (now (out .entry)) .answer)
         × (now (out .exit) ≡ wroteJoin (stampOf (now (u .entry)) (now (i .entry))) (stampOf (now (v .entry)) (now (j .entry))) (now (out .entry)) .out) ⌝ }
 {
-    let a = walks::meet(u, i, v, j);
-    let Answer::Done = a else {
-        return refused(a);
-    };
     let mut update = [0u64; UNION];
     let mut id = [0u64; UNION];
     let k = unions::join(u, i, v, j, &mut update, &mut id);

@@ -1,6 +1,6 @@
 -- `calls::fork` meets its contract: what the reader refuses is passed out, then an id that can grow no longer. Both branches of a lawful stamp
 -- are lawful, so that their words fit, and only the buffers are left to refuse. Assumes nothing.
-use mathlib.Core.Path.{_≡_, refl, sym, ap, _∙_}
+use mathlib.Core.Path.{_≡_, sym, ap, _∙_}
 use mathlib.Core.Bool.{Bool, true, false}
 use mathlib.Core.List.{List, []}
 use Prim.Native.Nat.{ℕ, _≤_}
@@ -19,7 +19,6 @@ use Rattle.rules.specs.Values.{forked}
 use Rattle.rules.specs.Packed.{packed, readStamp, wrote, wroteTwo, packedFork}
 use Rattle.rules.specs.declared.Given.{Given}
 use Rattle.rules.specs.declared.Forked.{Forked}
-use Rattle.rules.specs.declared.Record.{Record}
 use Rattle.rules.specs.declared.Words.{Words}
 use Rattle.rules.specs.declared.Refusal.{Refusal}
 use Rattle.rules.specs.declared.Refusal.the-variants.{Long}

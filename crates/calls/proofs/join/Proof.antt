@@ -1,7 +1,7 @@
--- `calls::join` meets its contract: what the readers refuse is passed out, the first's before the second's; two lawful stamps are then joined,
--- and nothing but what that refuses is left to refuse. Assumes nothing.
+-- `calls::join` meets its contract: what the readers refuse is passed out, the first's before the second's, then what two stamps that meet are
+-- refused for; of the join of two lawful stamps only 7 and 10 are left to refuse. Assumes nothing.
 use mathlib.Core.Path.{_≡_, refl, sym, _∙_}
-use mathlib.Core.Bool.{true}
+use mathlib.Core.Bool.{Bool, true, false}
 use mathlib.Core.List.{List, [], _∷_}
 use Prim.Native.Nat.{ℕ, _≤_}
 use borrow.Author.Needs.{needs}
@@ -10,25 +10,35 @@ use lib.ListN.{length, take}
 use lib.Seq.{length-take-le}
 use Rattle.rules.specs.Limits.{narrow}
 use Rattle.rules.specs.Stamps.{Stamp, join}
-use Rattle.rules.specs.Stored.{strsIn, held, isStored}
-use Rattle.rules.specs.Refusals.{first, many, overlap, unseen}
+use Rattle.rules.specs.Stored.{strsIn, held, isStored, unlawful}
+use Rattle.rules.specs.Refusals.{first, andThen, many, overlap, unseen}
 use Rattle.rules.specs.Values.{joined, meeting}
 use Rattle.rules.specs.Packed.{readStamp, wrote, packedJoin}
 use Rattle.rules.specs.declared.Given.{Given}
 use Rattle.rules.specs.declared.Refusal.{Refusal}
-use Rattle.rules.specs.declared.Refusal.the-variants.{Many, Overlap, Unseen}
-use Rattle.rules.specs.declared.Answer.{Answer}
+use Rattle.rules.specs.declared.Refusal.the-variants.{Unlawful, Many, Overlap, Unseen}
 use Rattle.rules.specs.declared.Answer.the-variants.{Done, Refused}
 use Rattle.rules.specs.declared.Written.the-variants.{Refused as NotWritten}
 use Rattle.laws.proofs.Lawful.{lawful-join}
-use Rattle.laws.proofs.Stored.{stored-lawful, stored-not-unlawful, held-stored}
+use Rattle.laws.proofs.Stored.{stored-lawful, held-stored}
 use Rattle.layout.specs.Words.{stampOf}
+use Rattle.walks.proofs.Meets.{meet-walk}
 use Rattle.stamps.proofs.Laws.{stored-names, lent-room}
 use Rattle.reading.proofs.Lent.{givenBy, read-is}
 use Rattle.calls.specs.Joins.{wroteJoin}
-use Rattle.calls.proofs.Laws.{none-holds, tells-same, tells-refused, read-stored}
+use Rattle.calls.proofs.Laws.{tells-same, tells-refused, read-stored}
 use Rattle.calls.proofs.join.Statement.{statement}
 use Rattle.calls.proofs.join.Tie as tie
+
+-- four tests and more: the more are asked where none of the four holds
+first-then : (a b c d : Bool) (more : List (Bool × Refusal))
+    → first ((a, Unlawful) ∷ (b, Unlawful) ∷ (c, Overlap) ∷ (d, Unseen) ∷ more) ≡ andThen (first ((a, Unlawful) ∷ (b, Unlawful) ∷ (c, Overlap) ∷ (d, Unseen) ∷ [])) (first more)
+unfolding first
+first-then true b c d more = refl
+first-then false true c d more = refl
+first-then false false true d more = refl
+first-then false false false true more = refl
+first-then false false false false more = refl
 
 module _ (s t l : List ℕ) (g : Given) (e : g ≡ readStamp narrow s) where
   first-refused : (r : Refusal) → g .answer ≡ Refused r → packedJoin narrow s t l ≡ record { answer = NotWritten r; out = l }
@@ -50,27 +60,27 @@ module _ (s t l : List ℕ) (g : Given) (e : g ≡ readStamp narrow s) where
       abbrev both : Stamp
       both = join (held (g .stamp)) (held (h .stamp))
 
-      -- what is left to refuse
-      abbrev tests : Answer
-      tests =
-          first
-          ((overlap (held (g .stamp)) (held (h .stamp)), Overlap) ∷ (unseen (held (g .stamp)) (held (h .stamp)), Unseen) ∷ (many narrow both, Many) ∷ [])
+      -- what comes after the tests of two that meet
+      meeting-then : (more : List (Bool × Refusal)) → first (meeting narrow (g .stamp) (h .stamp) more) ≡ andThen (first (meeting narrow (g .stamp) (h .stamp) [])) (first more)
+      meeting-then more =
+          first-then (unlawful narrow (g .stamp)) (unlawful narrow (h .stamp)) (overlap (held (g .stamp)) (held (h .stamp))) (unseen (held (g .stamp)) (held (h .stamp))) more
 
-      all-tests : first (meeting narrow (g .stamp) (h .stamp) ((many narrow both, Many) ∷ [])) ≡ tests
-      unfolding first
-      all-tests = rw (stored-not-unlawful narrow (g .stamp) one, stored-not-unlawful narrow (h .stamp) two)
+      join-refused : (r : Refusal) → first (meeting narrow (g .stamp) (h .stamp) []) ≡ Refused r
+          → packedJoin narrow s t l ≡ record { answer = NotWritten r; out = l }
+      unfolding packedJoin wrote joined
+      join-refused r k = rw (sym e, sym f, p, q, meeting-then ((many narrow both, Many) ∷ []), k)
 
-      writes-held : wroteJoin (held (g .stamp)) (held (h .stamp)) l ≡ packedJoin narrow s t l
-      unfolding packedJoin wroteJoin joined wrote
-      writes-held = by tests refl where
-        by : (x : Answer) → tests ≡ x → wroteJoin (held (g .stamp)) (held (h .stamp)) l ≡ packedJoin narrow s t l
-        by (Refused r) m = rw (sym e, sym f, p, q, all-tests, m)
-        by Done m =
-            let few = none-holds (many narrow both) Many [] (none-holds (unseen (held (g .stamp)) (held (h .stamp))) Unseen _ (none-holds (overlap (held (g .stamp)) (held (h .stamp))) Overlap _ m .1) .1) .0 in
-            let z = lawful-join narrow (held (g .stamp)) (held (h .stamp)) (stored-lawful narrow (g .stamp) one) (stored-lawful narrow (h .stamp) two) few in
-            rw (sym e, sym f, p, q, all-tests, m, held-stored narrow (lit≤ tt) both z)
+      writes-held : first (meeting narrow (g .stamp) (h .stamp) []) ≡ Done → wroteJoin (held (g .stamp)) (held (h .stamp)) l ≡ packedJoin narrow s t l
+      unfolding packedJoin wroteJoin joined first wrote
+      writes-held k = by (many narrow both) refl where
+        by : (b : Bool) → many narrow both ≡ b → wroteJoin (held (g .stamp)) (held (h .stamp)) l ≡ packedJoin narrow s t l
+        by true m = rw (sym e, sym f, p, q, meeting-then ((many narrow both, Many) ∷ []), k, m)
+        by false m =
+            let z = lawful-join narrow (held (g .stamp)) (held (h .stamp)) (stored-lawful narrow (g .stamp) one) (stored-lawful narrow (h .stamp) two) m in
+            rw (sym e, sym f, p, q, meeting-then ((many narrow both, Many) ∷ []), k, m, held-stored narrow (lit≤ tt) both z)
 
-      writes : wroteJoin (stampOf (take (g .stamp .update .count) (g .stamp .update .words)) (take (g .stamp .id .count) (g .stamp .id .words)))
+      writes : first (meeting narrow (g .stamp) (h .stamp) []) ≡ Done
+          → wroteJoin (stampOf (take (g .stamp .update .count) (g .stamp .update .words)) (take (g .stamp .id .count) (g .stamp .id .words)))
           (stampOf (take (h .stamp .update .count) (h .stamp .update .words)) (take (h .stamp .id .count) (h .stamp .id .words))) l
           ≡ packedJoin narrow s t l
       unfolding held strsIn
@@ -168,30 +178,91 @@ returns-2 c =
 array-share-prefix-u : tie.Need-array-share-prefix-u
 array-share-prefix-u c = k-inside c
 
-slice-aggregate-write-joined : tie.Need-slice-aggregate-write-joined
-slice-aggregate-write-joined c = sym (length-take-le _ _ (k-inside (c .before)))
+slice-aggregate-meet : tie.Need-slice-aggregate-meet
+slice-aggregate-meet c = sym (length-take-le _ _ (k-inside (c .before)))
 
 array-share-prefix-i : tie.Need-array-share-prefix-i
 array-share-prefix-i c = l-inside (c .before)
 
-slice-aggregate-write-joined-2 : tie.Need-slice-aggregate-write-joined-2
-slice-aggregate-write-joined-2 c = sym (length-take-le _ _ (l-inside (c .before .before)))
+slice-aggregate-meet-2 : tie.Need-slice-aggregate-meet-2
+slice-aggregate-meet-2 c = sym (length-take-le _ _ (l-inside (c .before .before)))
 
 array-share-prefix-v : tie.Need-array-share-prefix-v
 array-share-prefix-v c = m-inside (c .before .before)
 
-slice-aggregate-write-joined-3 : tie.Need-slice-aggregate-write-joined-3
-slice-aggregate-write-joined-3 c = sym (length-take-le _ _ (m-inside (c .before .before .before)))
+slice-aggregate-meet-3 : tie.Need-slice-aggregate-meet-3
+slice-aggregate-meet-3 c = sym (length-take-le _ _ (m-inside (c .before .before .before)))
 
 array-share-prefix-j : tie.Need-array-share-prefix-j
 array-share-prefix-j c = n-inside (c .before .before .before)
 
+slice-aggregate-meet-4 : tie.Need-slice-aggregate-meet-4
+slice-aggregate-meet-4 c = sym (length-take-le _ _ (n-inside (c .before .before .before .before)))
+
+meet-requires : tie.Need-meet-requires
+meet-requires c κs = search needs
+
+-- the walk has asked what 8 and 9 ask
+module _ (c : tie.After-meet) where
+  abbrev read-both : tie.After-enum-told3
+  read-both = c .before .before .before .before .before
+
+  asked : c .meet .result ≡ first (meeting narrow (got (done (twice read-both)) .stamp) (got2 (twice read-both) .stamp) [])
+  asked = c .meet .ensures ∙ meet-walk narrow (lit≤ tt) (got (done (twice read-both)) .stamp) (got2 (twice read-both) .stamp) (lawful read-both) (lawful2 read-both)
+
+enum-told-5 : tie.Need-enum-told-5
+enum-told-5 c = search needs
+
+enum-told-6 : tie.Need-enum-told-6
+enum-told-6 c = search needs
+
+refused-requires-3 : tie.Need-refused-requires-3
+refused-requires-3 c κs = search needs
+
+returns-3 : tie.Need-returns-3
+returns-3 c =
+    let m = c .before .before .before in
+    let b = read-both m in
+    let q = twice b in
+    let r = done q in
+    let g = start r .args in
+    let no = c .before .enum-told6 .given .1 in
+    tells-refused _ _ _ (m .meet .result) _ (c .refused3 .ensures) no
+    (join-refused (g .first .now) (g .second .now) (g .out .now) (got r) (is-got r) (once q .enum-told .given .1) (got2 q) (is-got2 q) (b .enum-told3 .given .1) _
+    (sym (asked m) ∙ no))
+
+-- the two may meet
+module _ (c : tie.After-enum-told5) where
+  abbrev apart : tie.After-enum-told3
+  apart = read-both (c .before .before)
+
+array-share-prefix-u-2 : tie.Need-array-share-prefix-u-2
+array-share-prefix-u-2 c = k-inside (apart c)
+
+slice-aggregate-write-joined : tie.Need-slice-aggregate-write-joined
+slice-aggregate-write-joined c = sym (length-take-le _ _ (k-inside (apart (c .before))))
+
+array-share-prefix-i-2 : tie.Need-array-share-prefix-i-2
+array-share-prefix-i-2 c = l-inside (apart (c .before))
+
+slice-aggregate-write-joined-2 : tie.Need-slice-aggregate-write-joined-2
+slice-aggregate-write-joined-2 c = sym (length-take-le _ _ (l-inside (apart (c .before .before))))
+
+array-share-prefix-v-2 : tie.Need-array-share-prefix-v-2
+array-share-prefix-v-2 c = m-inside (apart (c .before .before))
+
+slice-aggregate-write-joined-3 : tie.Need-slice-aggregate-write-joined-3
+slice-aggregate-write-joined-3 c = sym (length-take-le _ _ (m-inside (apart (c .before .before .before))))
+
+array-share-prefix-j-2 : tie.Need-array-share-prefix-j-2
+array-share-prefix-j-2 c = n-inside (apart (c .before .before .before))
+
 slice-aggregate-write-joined-4 : tie.Need-slice-aggregate-write-joined-4
-slice-aggregate-write-joined-4 c = sym (length-take-le _ _ (n-inside (c .before .before .before .before)))
+slice-aggregate-write-joined-4 c = sym (length-take-le _ _ (n-inside (apart (c .before .before .before .before))))
 
 write-joined-requires : tie.Need-write-joined-requires
 write-joined-requires c κs =
-    let b = c .before .before .before .before .before in
+    let b = apart (c .before .before .before .before .before) in
     let q = twice b in (
       record { of = got (done q) .stamp; stored = lawful b; update = refl; id = refl },
       record { of = got2 q .stamp; stored = lawful2 b; update = refl; id = refl },
@@ -200,15 +271,17 @@ write-joined-requires c κs =
 same-length : tie.Need-same-length
 same-length c = search needs
 
-returns-3 : tie.Need-returns-3
-returns-3 c =
+returns-4 : tie.Need-returns-4
+returns-4 c =
     let w = c .before .before in
-    let b = w .before .before .before .before .before .before in
+    let d = w .before .before .before .before .before .before in
+    let b = apart d in
     let q = twice b in
     let r = done q in
     let g = start r .args in
     tells-same _ _ _ _
-    (writes (g .first .now) (g .second .now) (g .out .now) (got r) (is-got r) (once q .enum-told .given .1) (got2 q) (is-got2 q) (b .enum-told3 .given .1))
+    (writes (g .first .now) (g .second .now) (g .out .now) (got r) (is-got r) (once q .enum-told .given .1) (got2 q) (is-got2 q) (b .enum-told3 .given .1)
+    (sym (asked (d .before .before)) ∙ d .enum-told5 .given .1))
     (w .write-joined .ensures)
 
 pub join-spec : {M : Type 1} → statement M
@@ -226,13 +299,26 @@ join-spec =
     refused-requires-2
     returns-2
     array-share-prefix-u
-    slice-aggregate-write-joined
+    slice-aggregate-meet
     array-share-prefix-i
-    slice-aggregate-write-joined-2
+    slice-aggregate-meet-2
     array-share-prefix-v
-    slice-aggregate-write-joined-3
+    slice-aggregate-meet-3
     array-share-prefix-j
+    slice-aggregate-meet-4
+    meet-requires
+    enum-told-5
+    enum-told-6
+    refused-requires-3
+    returns-3
+    array-share-prefix-u-2
+    slice-aggregate-write-joined
+    array-share-prefix-i-2
+    slice-aggregate-write-joined-2
+    array-share-prefix-v-2
+    slice-aggregate-write-joined-3
+    array-share-prefix-j-2
     slice-aggregate-write-joined-4
     write-joined-requires
     same-length
-    returns-3)
+    returns-4)

@@ -12,7 +12,7 @@ use lib.Seq.{length-take-le}
 use Rattle.rules.specs.Limits.{narrow}
 use Rattle.rules.specs.Stored.{isStored}
 use Rattle.rules.specs.Values.{updated}
-use Rattle.rules.specs.Packed.{Wrote, readStamp, wrote, writtenStamp, packedUpdate}
+use Rattle.rules.specs.Packed.{readStamp, wrote, writtenStamp, packedUpdate}
 use Rattle.rules.specs.declared.Given.{Given}
 use Rattle.rules.specs.declared.Record.{Record}
 use Rattle.rules.specs.declared.Refusal.{Refusal}

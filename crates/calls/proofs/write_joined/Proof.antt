@@ -1,8 +1,8 @@
--- `calls::write_joined` meets its contract: on the words of lawful stamps the walk asks what 8 and 9 ask; then the first words of both buffers are
--- those of the join, and where its id is not too large the join is lawful, so that they fit. Assumes nothing.
-use mathlib.Core.Path.{_≡_, refl, sym, ap, ap₂, _∙_, subst}
-use mathlib.Core.Bool.{Bool, true, false}
-use mathlib.Core.List.{List, [], _∷_, map}
+-- `calls::write_joined` meets its contract: the first words of both buffers are those of the join, and where its id is not too large the join is
+-- lawful, so that they fit. Assumes nothing.
+use mathlib.Core.Path.{_≡_, sym, ap, ap₂, _∙_, subst}
+use mathlib.Core.Bool.{true, false}
+use mathlib.Core.List.{List}
 use Prim.Native.Nat.{ℕ, _≤_, _<_}
 use native.Mathlib.Omega.{arith}
 use borrow.Author.Needs.{needs}
@@ -14,36 +14,21 @@ use Rattle.rules.specs.Strings.{strOf}
 use Rattle.rules.specs.Names.{Name}
 use Rattle.rules.specs.Stamps.{Stamp, lawful, join}
 use Rattle.rules.specs.Stored.{strsIn, held}
-use Rattle.rules.specs.Refusals.{first, andThen, many, overlap, unseen}
-use Rattle.rules.specs.Values.{meeting}
-use Rattle.rules.specs.Packed.{packed, wrote}
-use Rattle.rules.specs.declared.Refusal.{Refusal}
-use Rattle.rules.specs.declared.Refusal.the-variants.{Many, Overlap, Unseen}
-use Rattle.rules.specs.declared.Answer.{Answer}
-use Rattle.rules.specs.declared.Answer.the-variants.{Done, Refused}
+use Rattle.rules.specs.Refusals.{first, many}
+use Rattle.rules.specs.Packed.{wrote}
+use Rattle.rules.specs.declared.Refusal.the-variants.{Many}
 use Rattle.rules.specs.declared.Written.the-variants.{Refused as NotWritten}
 use Rattle.laws.proofs.Lawful.{lawful-join}
-use Rattle.laws.proofs.Stored.{stored-lawful, stored-not-unlawful}
+use Rattle.laws.proofs.Stored.{stored-lawful}
 use Rattle.layout.specs.Words.{stampOf}
-use Rattle.walks.specs.Walks.{meetWalk}
-use Rattle.walks.proofs.Meets.{meet-walk}
 use Rattle.unions.specs.declared.Joined.{Joined}
 use Rattle.unions.specs.Unions.{joinedCounts, joinedUpdateIn, joinedIdIn}
 use Rattle.unions.proofs.Joining.{Told, room, front, records-joined}
 use Rattle.writing.specs.Fits.{writtenNames}
 use Rattle.writing.proofs.Writing.{both, lawful-fits}
 use Rattle.calls.specs.Joins.{Lent, wroteJoin}
-use Rattle.calls.proofs.Laws.{tells-refused}
 use Rattle.calls.proofs.write_joined.Statement.{statement}
 use Rattle.calls.proofs.write_joined.Tie as tie
-
--- two tests and more: the more are asked where neither of the two holds
-first-then : (c d : Bool) (more : List (Bool × Refusal))
-    → first ((c, Overlap) ∷ (d, Unseen) ∷ more) ≡ andThen (first ((c, Overlap) ∷ (d, Unseen) ∷ [])) (first more)
-unfolding first
-first-then true d more = refl
-first-then false true more = refl
-first-then false false more = refl
 
 module _ (u i v j : List ℕ) (x : Lent u i) (y : Lent v j) where
   abbrev s : Stamp
@@ -51,9 +36,6 @@ module _ (u i v j : List ℕ) (x : Lent u i) (y : Lent v j) where
 
   abbrev t : Stamp
   t = stampOf v j
-
-  abbrev both-met : Answer
-  both-met = first ((overlap s t, Overlap) ∷ (unseen s t, Unseen) ∷ [])
 
   s-is : held (x .of) ≡ s
   unfolding held strsIn
@@ -63,24 +45,9 @@ module _ (u i v j : List ℕ) (x : Lent u i) (y : Lent v j) where
   unfolding held strsIn
   t-is = λ k. stampOf (y .update k) (y .id k)
 
-  asked : first (meeting narrow (x .of) (y .of) []) ≡ first ((overlap (held (x .of)) (held (y .of)), Overlap) ∷ (unseen (held (x .of)) (held (y .of)), Unseen) ∷ [])
-  unfolding first
-  asked = rw (stored-not-unlawful narrow (x .of) (x .stored), stored-not-unlawful narrow (y .of) (y .stored))
-
-  meets : meetWalk u i v j ≡ both-met
-  meets =
-      let same : meetWalk (front (x .of .update)) (front (x .of .id)) (front (y .of .update)) (front (y .of .id)) ≡ meetWalk u i v j =
-      λ k. meetWalk (x .update k) (x .id k) (y .update k) (y .id k) in
-      sym same ∙ meet-walk narrow (omega arith) (x .of) (y .of) (x .stored) (y .stored) ∙ asked
-      ∙ ap₂ (λ (a b : Stamp). first ((overlap a b, Overlap) ∷ (unseen a b, Unseen) ∷ [])) s-is t-is
-
-  not-met : (r : Refusal) (l : List ℕ) → both-met ≡ Refused r → wroteJoin s t l ≡ record { answer = NotWritten r; out = l }
-  unfolding wroteJoin wrote
-  not-met r l e = rw (first-then (overlap s t) (unseen s t) ((many narrow (join s t), Many) ∷ []), e)
-
   -- the join in the buffers
   told : (r : Joined) (us is : List ℕ) → r ≡ joinedCounts u i v j (replicate room 0) (replicate room 0)
-      → us ≡ joinedUpdateIn u i v j (replicate room 0) (replicate room 0) → is ≡ joinedIdIn i j (replicate room 0) → Told (join s t) r us is
+      → us ≡ joinedUpdateIn u i v j (replicate room 0) (replicate room 0) → is ≡ joinedIdIn u i v j (replicate room 0) (replicate room 0) → Told (join s t) r us is
   told r us is e f g =
       let zeros = replicate {A = ℕ} room 0 in
       let counts : joinedCounts (front (x .of .update)) (front (x .of .id)) (front (y .of .update)) (front (y .of .id)) zeros zeros ≡ joinedCounts u i v j zeros zeros =
@@ -88,21 +55,18 @@ module _ (u i v j : List ℕ) (x : Lent u i) (y : Lent v j) where
       let updates : joinedUpdateIn (front (x .of .update)) (front (x .of .id)) (front (y .of .update)) (front (y .of .id)) zeros zeros
       ≡ joinedUpdateIn u i v j zeros zeros =
       λ k. joinedUpdateIn (x .update k) (x .id k) (y .update k) (y .id k) zeros zeros in
-      let ids : joinedIdIn (front (x .of .id)) (front (y .of .id)) zeros ≡ joinedIdIn i j zeros = λ k. joinedIdIn (x .id k) (y .id k) zeros in
+      let ids : joinedIdIn (front (x .of .update)) (front (x .of .id)) (front (y .of .update)) (front (y .of .id)) zeros zeros ≡ joinedIdIn u i v j zeros zeros =
+      λ k. joinedIdIn (x .update k) (x .id k) (y .update k) (y .id k) zeros zeros in
       subst (λ (z : Stamp). Told z r us is) (ap₂ join s-is t-is)
       (records-joined (x .of) (y .of) (x .stored) (y .stored) r us is (e ∙ sym counts) (f ∙ sym updates) (g ∙ sym ids))
 
-  module _ (met : both-met ≡ Done) (r : Joined) (us is : List ℕ) (w : Told (join s t) r us is) where
+  module _ (r : Joined) (us is : List ℕ) (w : Told (join s t) r us is) where
     id-count : r .id ≡ length (join s t .id)
     id-count = sym (length-take-le (r .id) is (omega (arith, w .fits, w .idRoom))) ∙ sym (length-map (take (r .id) is) strOf) ∙ ap length (w .id)
 
-    left : (l : List ℕ) → wroteJoin s t l ≡ wrote (first ((many narrow (join s t), Many) ∷ [])) (packed narrow (join s t)) l
-    unfolding wroteJoin
-    left l = rw (first-then (overlap s t) (unseen s t) ((many narrow (join s t), Many) ∷ []), met)
-
     too-many : 16 < r .id → (l : List ℕ) → wroteJoin s t l ≡ record { answer = NotWritten Many; out = l }
-    unfolding first many wrote
-    too-many h l = left l ∙ rw (lt-ltb 16 (length (join s t .id)) (omega (arith, id-count)))
+    unfolding wroteJoin first many wrote
+    too-many h l = rw (lt-ltb 16 (length (join s t .id)) (omega (arith, id-count)))
 
     module _ (h : r .id ≤ 16) where
       few : many narrow (join s t) ≡ false
@@ -118,36 +82,8 @@ module _ (u i v j : List ℕ) (x : Lent u i) (y : Lent v j) where
           (ap (lawful narrow) (sym t-is) ∙ stored-lawful narrow (y .of) (y .stored)) few
 
       writes : (l : List ℕ) → wroteJoin s t l ≡ writtenNames narrow (take (r .update) us) (take (r .id) is) l
-      unfolding writtenNames first
-      writes l = left l ∙ rw (lawful-fits narrow (take (r .update) us) (take (r .id) is) (ap (lawful narrow) told-is ∙ is-lawful), told-is, few)
-
--- the walk has asked
-module _ (c : tie.After-meet) where
-  abbrev start : tie.Start
-  start = c .before .before .before .before .before .before
-
-  is-met : c .meet .result ≡ both-met (start .args .u .now) (start .args .i .now) (start .args .v .now) (start .args .j .now) (start .pre .0) (start .pre .1)
-  is-met = c .meet .ensures ∙ meets (start .args .u .now) (start .args .i .now) (start .args .v .now) (start .args .j .now) (start .pre .0) (start .pre .1)
-
-meet-requires : tie.Need-meet-requires
-meet-requires c κs = search needs
-
-enum-told : tie.Need-enum-told
-enum-told c = search needs
-
-enum-told-2 : tie.Need-enum-told-2
-enum-told-2 c = search needs
-
-refused-requires : tie.Need-refused-requires
-refused-requires c κs = search needs
-
-returns : tie.Need-returns
-returns c =
-    let m = c .before .before .before in
-    let g = start m in
-    let no = c .before .enum-told2 .given .1 in
-    tells-refused _ _ _ (m .meet .result) _ (c .refused .ensures) no
-    (not-met (g .args .u .now) (g .args .i .now) (g .args .v .now) (g .args .j .now) (g .pre .0) (g .pre .1) _ (g .args .out .now) (sym (is-met m) ∙ no))
+      unfolding wroteJoin writtenNames first
+      writes l = rw (lawful-fits narrow (take (r .update) us) (take (r .id) is) (ap (lawful narrow) told-is ∙ is-lawful), told-is, few)
 
 slice-aggregate-join : tie.Need-slice-aggregate-join
 slice-aggregate-join c = search needs
@@ -160,14 +96,8 @@ join-requires c κs = search needs
 
 -- the join in the buffers
 module _ (c : tie.After-join) where
-  abbrev may : tie.After-enum-told
-  may = c .before .before .before
-
   abbrev begun : tie.Start
-  begun = start (may .before .before)
-
-  done : both-met (begun .args .u .now) (begun .args .i .now) (begun .args .v .now) (begun .args .j .now) (begun .pre .0) (begun .pre .1) ≡ Done
-  done = sym (is-met (may .before .before)) ∙ may .enum-told .given .1
+  begun = c .before .before .before .before .before .before .before .before
 
   joined : Told (join (stampOf (begun .args .u .now) (begun .args .i .now)) (stampOf (begun .args .v .now) (begun .args .j .now))) (c .join .result) (c .join .last .1 .1 .1 .1 .0)
       (c .join .last .1 .1 .1 .1 .1 .0)
@@ -181,12 +111,12 @@ module _ (c : tie.After-join) where
   id-inside : c .join .result .id ≤ length (c .join .last .1 .1 .1 .1 .1 .0)
   id-inside = omega (arith, joined .fits, joined .idRoom)
 
-returns-2 : tie.Need-returns-2
-returns-2 c =
+returns : tie.Need-returns
+returns c =
     let k = c .before .before .before in
     let g = begun k in
     both _ _
-    (too-many (g .args .u .now) (g .args .i .now) (g .args .v .now) (g .args .j .now) (g .pre .0) (g .pre .1) (done k) (k .join .result) _ _ (joined k)
+    (too-many (g .args .u .now) (g .args .i .now) (g .args .v .now) (g .args .j .now) (g .pre .0) (g .pre .1) (k .join .result) _ _ (joined k)
     (omega (arith, c .if1 .taken)) (g .args .out .now))
 
 array-share-prefix-update : tie.Need-array-share-prefix-update
@@ -207,14 +137,14 @@ write-from-requires c κs = search needs
 same-length : tie.Need-same-length
 same-length c = search needs
 
-returns-3 : tie.Need-returns-3
-returns-3 c =
+returns-2 : tie.Need-returns-2
+returns-2 c =
     let w = c .before .before in
     let e = w .before .before .before .before in
     let k = e .before .before .before in
     let g = begun k in
     let same = both _ _
-    (writes (g .args .u .now) (g .args .i .now) (g .args .v .now) (g .args .j .now) (g .pre .0) (g .pre .1) (done k) (k .join .result) _ _ (joined k)
+    (writes (g .args .u .now) (g .args .i .now) (g .args .v .now) (g .args .j .now) (g .pre .0) (g .pre .1) (k .join .result) _ _ (joined k)
     (omega (arith, e .if1 .left)) (g .args .out .now)) in
     (w .write-from .ensures .0 ∙ same .0, w .write-from .ensures .1 ∙ same .1)
 
@@ -222,19 +152,14 @@ pub write-joined-spec : {M : Type 1} → statement M
 write-joined-spec =
     tie.close
     (tie.spec
-    meet-requires
-    enum-told
-    enum-told-2
-    refused-requires
-    returns
     slice-aggregate-join
     slice-aggregate-join-2
     join-requires
-    returns-2
+    returns
     array-share-prefix-update
     slice-aggregate-write-from
     array-share-prefix-id
     slice-aggregate-write-from-2
     write-from-requires
     same-length
-    returns-3)
+    returns-2)

@@ -12,13 +12,13 @@ use borrow.Author.Tests.{le-leb, lt-leb, leb-true, leb-false, eq-eqb}
 use lib.Bits.{bitAnd, and-le-l}
 use lib.Dec.{leb}
 use lib.ListN.{length, take, drop, length-drop}
-use lib.Pow.{pow-pos, pow-mono, shr-lt, high, ones-lt}
+use lib.Pow.{pow-pos, pow-mono, shr-lt}
 use lib.Seq.{length-take-le, drop-drop}
 use Rattle.rules.specs.Limits.{narrow}
 use Rattle.rules.specs.Strings.{Str, field, valueFrom, value, aligned, wordOf, strOf, isWord}
 use Rattle.rules.specs.Packed.{bitsOf, takeBits, takeNumber, takeString}
-use Rattle.laws.proofs.Tests.{no, and-both}
-use Rattle.laws.proofs.Words.{word-value, word-length, str-word}
+use Rattle.laws.proofs.Tests.{and-both}
+use Rattle.laws.proofs.Words.{word-value, str-word}
 use Rattle.strings.proofs.Ones.{above-is}
 use Rattle.reading.specs.Reading.{stream, StringAt}
 use Rattle.layout.proofs.Values.{join-lt}

@@ -1,6 +1,6 @@
 -- `writing::write_both` meets its contract: the sizes tell that both stamps fit, and the room in both buffers is tested before a byte is written.
 -- Assumes nothing.
-use mathlib.Core.Path.{_≡_, refl, sym, ap, _∙_}
+use mathlib.Core.Path.{_≡_, ap, _∙_}
 use mathlib.Core.Bool.{true, false}
 use mathlib.Core.List.{List}
 use Prim.Native.Nat.{ℕ, _≤_, _<_}
@@ -10,9 +10,8 @@ use borrow.Author.Tests.{lt-ltb, le-ltb}
 use lib.ListN.{length}
 use Rattle.rules.specs.Limits.{narrow}
 use Rattle.rules.specs.Refusals.{first}
-use Rattle.rules.specs.Packed.{WroteTwo, packed, over, wroteTwo}
+use Rattle.rules.specs.Packed.{packed, over, wroteTwo}
 use Rattle.rules.specs.declared.Refusal.the-variants.{Unlawful, Short}
-use Rattle.rules.specs.declared.Written.{Written}
 use Rattle.rules.specs.declared.Written.the-variants.{Bytes, Refused as NotWritten}
 use Rattle.layout.specs.Words.{stampOf}
 use Rattle.writing.specs.Fits.{fits, writtenBoth}
