@@ -1,2 +1,0 @@
--- What the contracts of private functions cite: names and stamps whose words are lent.
-pub mod Lent
