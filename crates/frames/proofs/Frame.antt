@@ -24,9 +24,11 @@ use types.Run.{first, branches, skips, fld, Writes, Opd, Rv, look, load, from, s
 use prog.Memory.{fieldOf, fieldAt}
 use types.Part.{Part, look-in, sub, whole}
 
+-- what an entry that is a cell, or room for one, is known by: its share, type, block and offset; none of any other entry
 abbrev pub Key : Type 0
 Key = Option (Share × (Ty × (ℕ × ℕ)))
 
+-- a block for each local
 abbrev pub Blocks : List Local → Type 0
 Blocks [] = Unit {0}
 Blocks (l ∷ ls) = ℕ × Blocks ls
@@ -37,6 +39,7 @@ module _ {M : Type 1} {𝓤 : URA M} {H : Heap 𝓤} {A : Atoms 𝓤} (W : Given
   empties none = emp 𝓤
   empties (some k) = all 𝓤 (λ (e : k .0 ≡ fullShare). H .room (k .1 .0) (k .1 .1 .0) (k .1 .1 .1))
 
+  -- any other entry
   abbrev none-of : (i : Item 𝓤) → (k : Key) × ent 𝓤 (mean 𝓤 H A i) (empties k)
   none-of i = (none, top 𝓤 (mean 𝓤 H A i))
 
@@ -91,14 +94,17 @@ module _ {M : Type 1} {𝓤 : URA M} {H : Heap 𝓤} {A : Atoms 𝓤} (W : Given
   envOf [] bs = []
   envOf (l ∷ ls) bs = (tyOf 𝓤 H l, bs .0) ∷ envOf ls (bs .1)
 
+  -- the frame before anything is stored in it
   abbrev pub rooms : Env 𝓤 H → List (Item 𝓤)
   rooms [] = []
   rooms (e ∷ E) = ‵ (froom (e .0) (e .1) zero) ∷ rooms E
 
+  -- what frees the locals, in one entry
   abbrev pub deaths : Env 𝓤 H → Fml
   deaths [] = ftrue
   deaths (e ∷ E) = fsep (fdies (e .0) (e .1)) (deaths E)
 
+  -- the frame with these values in its first locals
   abbrev pub cells : Env 𝓤 H → List Val → List (Item 𝓤)
   cells E [] = rooms E
   cells [] (v ∷ vs) = []
@@ -170,10 +176,12 @@ module _ {M : Type 1} {𝓤 : URA M} {H : Heap 𝓤} {A : Atoms 𝓤} (W : Given
   keys (e ∷ E) [] = none ∷ keys E []
   keys (e ∷ E) (i ∷ Γ) = key i ∷ keys E Γ
 
+  -- the keys of a whole frame
   abbrev pub wants : Env 𝓤 H → List Key
   wants [] = []
   wants (e ∷ E) = some (fullShare, (e .0, (e .1, zero))) ∷ wants E
 
+  -- what stands behind the frame
   abbrev pub after : Env 𝓤 H → List (Item 𝓤) → List (Item 𝓤)
   after [] Γ = Γ
   after (e ∷ E) [] = after E []

@@ -46,6 +46,7 @@ module _ {M : Type 1} {𝓤 : URA M} {H : Heap 𝓤} {A : Atoms 𝓤} {K : Type 
   var₂ t {k} e = load t (from t (stop t)) (look t (suc (suc k)) e)
 
 module _ {M : Type 1} (𝓤 : URA M) (H : Heap 𝓤) (A : Atoms 𝓤) (P : Plainly) (Ps : List Plainly) (Q : Plainly) (φ : Says P Ps Q) where
+  -- the contract of a function over a run that may be changed
   abbrev pub Changes : Contract 𝓤
   Changes = tripleOf 𝓤 H A (lent P Ps Q .signature) (closing 𝓤 H A (lent P Ps Q) (lending P Ps Q 𝓤 H A φ))
 
@@ -139,6 +140,7 @@ module _ {M : Type 1} {𝓤 : URA M} {H : Heap 𝓤} {A : Atoms 𝓤} {K : Type 
                   (subst (λ (τ : Ty). T (hasTy τ (Q .val u)) × WT (Q .val u)) (sym s) (typed Q W u (Q .val u) is′))) $ h is′
 
 module _ {M : Type 1} (𝓤 : URA M) (H : Heap 𝓤) (A : Atoms 𝓤) (P : Plainly) (Ps : List Plainly) (Q : Plainly) (φ : Tells P Ps Q) where
+  -- and of one that only reads it
   abbrev pub Answers : Contract 𝓤
   Answers = tripleOf 𝓤 H A (shown P Ps Q .signature) (closing 𝓤 H A (shown P Ps Q) (showing P Ps Q 𝓤 H A φ))
 

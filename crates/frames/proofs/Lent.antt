@@ -86,6 +86,7 @@ going 𝓤 H A W n (P ∷ Ps) = (
 )
 
 -- ---- the frame of such a function: the result, the run, the parameters, and what else it has
+-- a local of a type
 abbrev pub of : Ty → Local
 of τ = local τ valueLocal
 
@@ -110,6 +111,7 @@ module _ (P : Plainly) (Ps : List Plainly) (Q : Plainly) where
   abbrev stayed : Stays (lent .signature .params) (lent .kept)
   stayed = (stay-slice (0 ∷ []) tt (plain (λ _. P .row)), dropped 1 Ps)
 
+  -- of the list on entry, the arguments, the result and the list at exit
   abbrev pub Says : Type 1
   Says = (κs : Lfts 1) → List (P .row .Denot) → Ins 1 κs Ps → Q .row .Denot → List (P .row .Denot) → Type 0
 
@@ -168,6 +170,7 @@ module _ (P : Plainly) (Ps : List Plainly) (Q : Plainly) where
         → ent 𝓤 (⋆ 𝓤 H A (‵ (row (P .row) fullShare zs b o) ∷ ‵ S ∷ [])) (Post (Q .val r))
 
     module _ (W : Given 𝓤 H A) (𝓣 : Tables 𝓤 H) (f : Fn) where
+      -- what a proof of such a function has to give: the steps of its body, from its first context to its return
       abbrev pub Walk : Type 2
       Walk = (κs : Lfts 1) (b o : ℕ) (ys : List (P .row .Denot)) (a : Ins 1 κs Ps) → Room (P .row) (length ys) → Good 1 κs Ps a → (Post : Val → SProp 𝓤)
           (S : Fml) → Closes κs b o ys a Post S
@@ -224,6 +227,7 @@ module _ (P : Plainly) (Ps : List Plainly) (Q : Plainly) where
   abbrev staying : Stays (shown .signature .params) (shown .kept)
   staying = (stay-dropped (shrSliceOf (0 ∷ []) tt (plain (λ _. P .row))) yes, dropped 1 Ps)
 
+  -- of the list, the arguments and the result
   abbrev pub Tells : Type 1
   Tells = (κs : Lfts 1) → List (P .row .Denot) → Ins 1 κs Ps → Q .row .Denot → Type 0
 
@@ -274,6 +278,7 @@ module _ (P : Plainly) (Ps : List Plainly) (Q : Plainly) where
         (Post (Q .val r))
 
     module _ (W : Given 𝓤 H A) (𝓣 : Tables 𝓤 H) (f : Fn) where
+      -- the same where the run is only read
       abbrev pub Look : Type 2
       Look = (κs : Lfts 1) (b o : ℕ) (ys : List (P .row .Denot)) (a : Ins 1 κs Ps) → Room (P .row) (length ys) → Good 1 κs Ps a → (s : Share)
           (Post : Val → SProp 𝓤) (S : Fml) → Shuts κs b o ys a s Post S

@@ -53,6 +53,7 @@ pub record Plainly : Type 2 where
   pub still : row .exit yes ≡ unchanged
   pub small : T (ltb (mem row .size) (2 ^ 64))
 
+-- usize and u64, then bool
 abbrev pub number : Plainly
 number = record {
   row = usize;
@@ -97,6 +98,7 @@ module _ (T : Declared) (L : LL.Laws T) (pl : Plains (fields T)) (cs : LL.Copyab
     small = sm;
   }
 
+-- a value of the type has the machine type
 pub typed : (P : Plainly) {M : Type 1} {𝓤 : URA M} {H : Heap 𝓤} {A : Atoms 𝓤} (W : Given 𝓤 H A) (x : P .row .Denot) (v : Val) → Is (P .row) x (v ∷ []) → T
     (hasTy (P .ty) v) × WT v
 typed P {M} {𝓤} {H} {A} W x v is = subst (λ (τs : List Ty). Typed τs (v ∷ [])) (P .lies) (P .lawful 𝓤 H A W .typed x (v ∷ []) is) .0
@@ -214,11 +216,13 @@ module _ {M : Type 1} {𝓤 : URA M} {H : Heap 𝓤} {A : Atoms 𝓤} {K : Type 
       (place-is (mem (P .row) .size) o i) (into 𝓤 H A W Γ P ys i y b o l r e K is)
 
 -- ---- a covered function of plain values, whose contract says what it gives
+-- parameters of plain types
 abbrev pub slots : {n : ℕ} → List Plainly → List (Slot n)
 slots [] = []
 slots (P ∷ Ps) = plain (λ _. P .row) ∷ slots Ps
 
 module _ (n : ℕ) (κs : Lfts n) where
+  -- their values, the machine values of those, and what is known of both
   abbrev pub Ins : List Plainly → Type 0
   Ins Ps = Denots (typesAt (slots {n = n} Ps) κs)
 
@@ -242,6 +246,7 @@ module _ (n : ℕ) (κs : Lfts n) where
   abbrev pub words : (Ps : List Plainly) → Ins Ps → List Val
   words Ps a = flat (typesAt (slots {n = n} Ps) κs) (valss (typesAt (slots {n = n} Ps) κs) (spelled Ps) a)
 
+-- the signature of such a function
 abbrev pub valued : List Plainly → Plainly → Ended
 valued Ps Q = record { signature = record { lifetimes = 0; outlives = []; params = slots Ps; result = plain (λ _. Q .row) }; kept = all yes (slots Ps) }
 

@@ -24,6 +24,7 @@ use Rattle.frames.proofs.Frame.{Key, cell, key, empties, fills}
 
 -- ---- locals are forgotten, by their numbers
 module _ {M : Type 1} {𝓤 : URA M} {H : Heap 𝓤} {A : Atoms 𝓤} (W : Given 𝓤 H A) where
+  -- room in the place of the cell of this key
   abbrev pub roomOf : Key → Item 𝓤
   roomOf none = ‵ ftrue
   roomOf (some k) = ‵ (froom (k .1 .0) (k .1 .1 .0) (k .1 .1 .1))
@@ -36,6 +37,7 @@ module _ {M : Type 1} {𝓤 : URA M} {H : Heap 𝓤} {A : Atoms 𝓤} (W : Given
   roomed none e = id⊢ 𝓤 (emp 𝓤)
   roomed (some k) e = allE 𝓤 (λ (z : k .0 ≡ fullShare). H .room (k .1 .0) (k .1 .1 .0) (k .1 .1 .1)) e
 
+  -- entry k, and entries ks, forgotten; and the shares of those cells, which must be whole
   abbrev pub forgot : ℕ → List (Item 𝓤) → List (Item 𝓤)
   forgot k Γ = put 𝓤 H A k (roomOf (key W (nth 𝓤 H A k Γ))) Γ
 

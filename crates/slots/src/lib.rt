@@ -14,6 +14,7 @@ ghost use Rattle.slots.specs.Rules.{tableCode, answerCode, fullCode, slo
 ghost use Rattle.slots.specs.Scans.{absentOrNext, weighed, weighStart, onwardTo, foundOr, obsoleteNumber, spareCode, meetCode};
 use answers::compared_code;
 use answers::refusal_code;
+use names::counted;
 use names::is_zero_from;
 use rules::Answer;
 use rules::Compared;
@@ -369,7 +370,8 @@ fn meet_code(m: Record, r: Record) -> u64
 
 // How a stamp stands to a second, by the words that count: u and v of updates, i and j of ids.
 fn compare_in<'a>(u: &'a [u64], i: &'a [u64], v: &'a [u64], j: &'a [u64], c: Fronts) -> Compared
-    ensures { λ r. ⌜ r ≡ compareWalk (take (c .u) (now (u .entry))) (take (c .i) (now (i .entry))) (take (c .v) (now (v .entry))) (take (c .j) (now (j .entry))) ⌝ }
+    ensures { λ r. ⌜ r ≡ compareWalk (take (c .u) (now (u .entry))) (take (c .i) (now (i .entry)))
+        (take (c .v) (now (v .entry))) (take (c .j) (now (j .entry))) ⌝ }
 {
     walks::compare(
         counted(u, c.u),
@@ -377,16 +379,6 @@ fn compare_in<'a>(u: &'a [u64], i: &'a [u64], v: &'a [u64], j: &'a [u64], c: Fro
         counted(v, c.v),
         counted(j, c.j),
     )
-}
-
-// The words of a name that its record counts.
-fn counted(w: &[u64], c: usize) -> &[u64]
-    ensures { λ r. ⌜ now r ≡ take c (now (w .entry)) ⌝ }
-{
-    if w.len() < c {
-        return w;
-    }
-    &w[..c]
 }
 
 // 1 where the comparison lets the first go, 0 where it keeps it.

@@ -111,7 +111,8 @@ module _ (ν : Name) (rule : ℕ → ℕ → Record → Record → Two)
       (of-opd ! (piece ! refl refl refl)) $
       sets ! (of-opd ! (piece ! refl refl refl)) refl (tt, record { fits = fields .0 .1 }) $
       returns-within ! Post refl (look ! 0 refl) $ leaves ! refl refl $
-      by ! (closes ys₂ (d .code) same₂ (let p : d .code ≡ pairCode rule ys i j = simp e₀ in let z : ys₂ ≡ pairList rule ys i j = simp e₀ in (p, z)) (fields .0))))))
+      let p : d .code ≡ pairCode rule ys i j = simp e₀ in let z : ys₂ ≡ pairList rule ys i j = simp e₀ in
+      by ! (closes ys₂ (d .code) same₂ (p, z) (fields .0))))))
       (λ no′. let e₁ : eqb g 0 ≡ false = holds-false (eqb g 0) no′ in
       sets ! (of-opd ! (var ! refl)) refl (tt, record { fits = ig .1 }) $ returns ! (look ! 0 refl) $ leaves ! refl refl $
       by ! (closes ys g refl (let p : g ≡ pairCode rule ys i j = simp e₁ in let z : ys ≡ pairList rule ys i j = simp e₁ in (p, z)) ig)))

@@ -142,7 +142,8 @@ full-miss : (r : Record) (t : Table) → absent narrow r ≡ false → full narr
 unfolding full
 full-miss r t e = rw (low-miss r t e) (eqb-suc (lowest narrow t) (length t))
 
-sought-hit : (r : Record) (t : Table) (k : ℕ) → absent narrow r ≡ true → cond (full narrow (r ∷ t)) (k + length (r ∷ t)) (found + (k + lowest narrow (r ∷ t))) ≡ found + k
+sought-hit : (r : Record) (t : Table) (k : ℕ) → absent narrow r ≡ true
+    → cond (full narrow (r ∷ t)) (k + length (r ∷ t)) (found + (k + lowest narrow (r ∷ t))) ≡ found + k
 sought-hit r t k e = rw (full-hit r t e, low-hit r t e) (let z : found + (k + 0) ≡ found + k = omega arith in z)
 
 sought-miss : (r : Record) (t : Table) (k : ℕ) → absent narrow r ≡ false
@@ -179,7 +180,8 @@ unfolding passOf full lowest
 sought k [] h = let e : k ≡ k + 0 = omega arith in e
 sought k (r ∷ t) h = pass-more absentOrNext k r t (omega arith) ∙ by (absent narrow r) refl (sought (k + 1) t (omega arith))
   where
-    by : (b : Bool) → absent narrow r ≡ b → passOf absentOrNext (k + 1) t ≡ soughtFrom (k + 1) t → passOf absentOrNext (absentOrNext k r) t ≡ soughtFrom k (r ∷ t)
+    by : (b : Bool) → absent narrow r ≡ b → passOf absentOrNext (k + 1) t ≡ soughtFrom (k + 1) t
+        → passOf absentOrNext (absentOrNext k r) t ≡ soughtFrom k (r ∷ t)
     by true e ih =
         ap (λ (n : ℕ). passOf absentOrNext n t) (absent-hit k r e (omega arith))
         ∙ pass-found absentOrNext (found + k) t (omega arith)

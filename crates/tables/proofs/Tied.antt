@@ -175,8 +175,9 @@ join-tied t a b = by (gates (length t) a b)
     by (outA p q c) = (simp (c, p, q), simp (c, p, q))
     by (outB p q r c) = one (absent narrow (at t a)) refl p q r c
     by (past p q r c) =
-        let s = two-stepped (first (pairTests a b (at t a) (at t b) (meetTests (at t a) (at t b) ((many narrow (join (held (at t a)) (held (at t b))), Many) ∷ [])))) t a a b
-        (stored narrow (join (held (at t a)) (held (at t b)))) (blank narrow) in
+        let j : Stamp = join (held (at t a)) (held (at t b)) in
+        let asked : Answer = first (pairTests a b (at t a) (at t b) (meetTests (at t a) (at t b) ((many narrow j, Many) ∷ []))) in
+        let s = two-stepped asked t a a b (stored narrow j) (blank narrow) in
         (simp (c, p, q, r) (s .0), simp (c, p, q, r) (s .1))
 
 -- ---- fork

@@ -26,7 +26,7 @@ returns c =
     let e = d .before in
     let f = e .before in
     let g = f .before in
-    c .compare .ensures ∙ (λ n. compareWalk (g .counted .ensures n) (f .counted2 .ensures n) (e .counted3 .ensures n) (d .counted4 .ensures n))
+    c .compare .ensures ∙ (λ n. compareWalk (g .counted .ensures .1 n) (f .counted2 .ensures .1 n) (e .counted3 .ensures .1 n) (d .counted4 .ensures .1 n))
 
 pub compare-in-spec : {M : Type 1} → statement M
 compare-in-spec =
