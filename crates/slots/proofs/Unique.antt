@@ -3,7 +3,7 @@ use mathlib.Core.Path.{refl}
 use Rattle.rules.specs.Contracts.{OneAnswer}
 use Rattle.laws.proofs.Contracts.{agree, both-say}
 use Rattle.slots.proofs.gate
-use Rattle.slots.proofs.room
+use Rattle.slots.proofs.span
 use Rattle.slots.proofs.fresh_slot
 use Rattle.slots.proofs.update_rule
 use Rattle.slots.proofs.fork_rule
@@ -18,8 +18,8 @@ use Rattle.slots.proofs.found_or
 pub gate-one-answer : OneAnswer gate.ended (λ M 𝓤. gate.clauses 𝓤) (λ M 𝓤. gate.spec 𝓤)
 gate-one-answer M 𝓤 H A mem run = (refl, λ κs a g h r s v w. both-say 𝓤 (λ e f. (agree e f, refl)))
 
-pub room-one-answer : OneAnswer room.ended (λ M 𝓤. room.clauses 𝓤) (λ M 𝓤. room.spec 𝓤)
-room-one-answer M 𝓤 H A mem run = (refl, λ κs a g h r s v w. both-say 𝓤 (λ e f. (agree e f, refl)))
+pub span-one-answer : OneAnswer span.ended (λ M 𝓤. span.clauses 𝓤) (λ M 𝓤. span.spec 𝓤)
+span-one-answer M 𝓤 H A mem run = (refl, λ κs a g h r s v w. both-say 𝓤 (λ e f. (agree e f, refl)))
 
 pub fresh-slot-one-answer : OneAnswer fresh_slot.ended (λ M 𝓤. fresh_slot.clauses 𝓤) (λ M 𝓤. fresh_slot.spec 𝓤)
 fresh-slot-one-answer M 𝓤 H A mem run = (refl, λ κs a g h r s v w. both-say 𝓤 (λ e f. (agree e f, refl)))

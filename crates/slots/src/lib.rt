@@ -9,7 +9,7 @@ ghost use Rattle.rules.specs.Limits.{narrow};
 ghost use Rattle.rules.specs.Refusals.{first};
 ghost use Rattle.rules.specs.Stored.{absent};
 ghost use Rattle.walks.specs.Walks.{compareWalk};
-ghost use Rattle.slots.specs.Gates.{gateCode, roomOf, freshSlot};
+ghost use Rattle.slots.specs.Gates.{gateCode, spanOf, freshSlot};
 ghost use Rattle.slots.specs.Rules.{tableCode, answerCode, fullCode, slotTests, pairTests, updateRule, forkRule, joinRule, compareRule};
 ghost use Rattle.slots.specs.Scans.{absentOrNext, weighed, weighStart, onwardTo, foundOr, obsoleteNumber, spareCode, meetCode};
 use answers::compared_code;
@@ -88,8 +88,8 @@ pub fn gate(n: usize, a: usize, b: usize) -> u64
 }
 
 // How many slots of n there are to go over: all, or none where the table is too large.
-pub fn room(n: usize) -> usize
-    ensures { λ r. ⌜ r ≡ roomOf n ⌝ }
+pub fn span(n: usize) -> usize
+    ensures { λ r. ⌜ r ≡ spanOf n ⌝ }
 {
     if RECORDS < n {
         return 0;

@@ -26,7 +26,7 @@ use Rattle.rules.specs.declared.Verdict.the-variants.{Equal, Obsolete, Newer, C
 use Rattle.walks.specs.Walks.{front, compareWalk}
 use Rattle.walks.proofs.Meets.{compare-walk}
 use Rattle.slots.specs.declared.Scan.{Scan}
-use Rattle.slots.specs.Gates.{codeOf, roomOf}
+use Rattle.slots.specs.Gates.{codeOf, spanOf}
 use Rattle.slots.specs.Scans.{found, foundOr, onwardTo, absentOrNext, weighed, weighOf, obsoleteNumber, spareCode, meetCode}
 use Rattle.tables.specs.Passes.{passOf, within, scanOf}
 
@@ -37,9 +37,9 @@ abbrev pub Goes : (ℕ → Record → ℕ) → Type 0
 Goes look = (k : ℕ) (r : Record) → k < 32 → look k r < found → look k r ≡ k + 1
 
 -- a table that is gone over is not too large
-pub room-few : (n k : ℕ) → k < roomOf n → (k < n) × (n ≤ 32)
-unfolding roomOf
-room-few n k = by (ltb records n) refl
+pub span-few : (n k : ℕ) → k < spanOf n → (k < n) × (n ≤ 32)
+unfolding spanOf
+span-few n k = by (ltb records n) refl
   where
     by : (b : Bool) → ltb records n ≡ b → k < cond b 0 n → (k < n) × (n ≤ 32)
     by true e h = absurd (omega arith)
@@ -49,8 +49,8 @@ within-few : (t : Table) → length t ≤ 32 → within t ≡ t
 unfolding within
 within-few t h = simp (le-ltb records (length t) h)
 
-within-length : (t : Table) → length (within t) ≡ roomOf (length t)
-unfolding within roomOf
+within-length : (t : Table) → length (within t) ≡ spanOf (length t)
+unfolding within spanOf
 within-length t = by (ltb records (length t))
   where
     by : (b : Bool) → length (cond b [] t) ≡ cond b 0 (length t)
@@ -69,7 +69,7 @@ module _ (look : ℕ → Record → ℕ) where
   pass-more k r t h = simp (lt-ltb k found (omega arith))
 
   -- behind the last slot nothing is looked at
-  pub scan-end : (k : ℕ) (ys : Table) → roomOf (length ys) ≤ k → scanOf look k ys ≡ k
+  pub scan-end : (k : ℕ) (ys : Table) → spanOf (length ys) ≤ k → scanOf look k ys ≡ k
   unfolding scanOf passOf
   scan-end k ys h = ap (passOf look k) (drop-of-length-le (within ys) {i = k} (omega (arith, within-length ys)))
 
@@ -83,10 +83,10 @@ module _ (look : ℕ → Record → ℕ) where
         by false e = omega (arith, ltb-false (look k r) found e)
 
     -- one slot more
-    pub scan-more : (k : ℕ) (ys : Table) → k < roomOf (length ys) → scanOf look (look k (getD ys k outside)) ys ≡ scanOf look k ys
+    pub scan-more : (k : ℕ) (ys : Table) → k < spanOf (length ys) → scanOf look (look k (getD ys k outside)) ys ≡ scanOf look k ys
     unfolding scanOf
     scan-more k ys h =
-        let few = room-few (length ys) k h in
+        let few = span-few (length ys) k h in
         let n = look k (getD ys k outside) in
         let w : within ys ≡ ys = within-few ys (few .1) in
         ap (λ (t : Table). passOf look n (drop n t)) w

@@ -15,7 +15,7 @@ use slots::found_or;
 use slots::fresh_slot;
 use slots::gate;
 use slots::is_absent;
-use slots::room;
+use slots::span;
 use slots::weigh;
 use slots::weigh_start;
 
@@ -23,7 +23,7 @@ use slots::weigh_start;
 pub fn fresh(t: &mut [Record]) -> u64
     ensures { λ r. ⌜ (r ≡ slotNumber (makeFresh narrow (now (t .entry)) .answer)) × (now (t .exit) ≡ makeFresh narrow (now (t .entry)) .table) ⌝ }
 {
-    let m = room(t.len());
+    let m = span(t.len());
     let mut i = 0;
     while i < m {
         t[i] = fresh_slot(i);
@@ -107,7 +107,7 @@ fn fork_at(t: &mut [Record], a: usize, b: usize) -> u64
 fn lowest_absent(t: &[Record], a: usize) -> usize
     ensures { λ r. ⌜ r ≡ foundOr (scanOf absentOrNext 0 (now (t .entry))) a ⌝ }
 {
-    let n = room(t.len());
+    let n = span(t.len());
     let mut k = 0;
     while k < n {
         k = absent_or_next(k, t[k]);
@@ -119,7 +119,7 @@ fn lowest_absent(t: &[Record], a: usize) -> usize
 fn weigh_all(t: &[Record], s: Scan) -> u64
     ensures { λ r. ⌜ r ≡ foundOr (scanOf (weighOf s) (s .from) (now (t .entry))) 0 ⌝ }
 {
-    let n = room(t.len());
+    let n = span(t.len());
     let mut k = s.from;
     while k < n {
         k = weigh(s, k, t[k], is_absent(t[k]));

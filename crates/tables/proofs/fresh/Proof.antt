@@ -9,12 +9,12 @@ use contract.Lifetimes.{Lfts}
 use denote.Slice.{sliceVal}
 use Rattle.rules.specs.declared.Record.{Record}
 use Rattle.rules.proofs.Record as T
-use Rattle.slots.specs.Gates.{gateCode, roomOf, freshSlot}
+use Rattle.slots.specs.Gates.{gateCode, spanOf, freshSlot}
 use Rattle.tables.proofs.Asks.{holds-true, holds-false}
-use Rattle.tables.proofs.Filled.{filledTo, filled-more, filled-length, fresh-is, room-le}
+use Rattle.tables.proofs.Filled.{filledTo, filled-more, filled-length, fresh-is, span-le}
 use Rattle.tables.proofs.Slots.{item, gateOf}
-use Rattle.slots.proofs.room.Symbol as room-def
-use Rattle.slots.proofs.room.Met as room-thm
+use Rattle.slots.proofs.span.Symbol as span-def
+use Rattle.slots.proofs.span.Met as span-thm
 use Rattle.slots.proofs.gate.Symbol as gate-def
 use Rattle.slots.proofs.gate.Met as gate-thm
 use Rattle.slots.proofs.fresh_slot.Symbol as slot-def
@@ -25,7 +25,7 @@ use Rattle.tables.proofs.fresh.Statement as stated
 use Rattle.tables.proofs.fresh.Code as code
 
 abbrev said : Says item [] number
-said κs ys a r zs = (r ≡ gateCode (length ys) 0 0) × (zs ≡ filledTo (roomOf (length ys)) ys)
+said κs ys a r zs = (r ≡ gateCode (length ys) 0 0) × (zs ≡ filledTo (spanOf (length ys)) ys)
 
 -- where the loop stands: so many slots are filled, of m
 record At (m : ℕ) : Type 0 where
@@ -39,13 +39,13 @@ fewer-wf : (m : ℕ) → WellFounded (fewer m)
 fewer-wf m = record { apply = λ t. InvImage·accessible (λ (u : At m). m - u .i) (Nat·lt-wfRel .wf .apply (m - t .i)) }
 
 module _ {M : Type 1} (𝓤 : URA M) (H : Heap 𝓤) (A : Atoms 𝓤) (W : Given 𝓤 H A) (𝓣 : Tables 𝓤 H)
-    (known-room : Triple 𝓤 (𝓣 .C room-def.name) (Gives 𝓤 H A (number ∷ []) number (λ a. roomOf (a .0))))
+    (known-span : Triple 𝓤 (𝓣 .C span-def.name) (Gives 𝓤 H A (number ∷ []) number (λ a. spanOf (a .0))))
     (known-slot : Triple 𝓤 (𝓣 .C slot-def.name) (Gives 𝓤 H A (number ∷ []) item (λ a. freshSlot (a .0))))
     (known-gate : Triple 𝓤 (𝓣 .C gate-def.name) (Gives 𝓤 H A (number ∷ number ∷ number ∷ []) number gateOf)) where
-  module _ (b o : ℕ) (ys : List Record) (gn : Room T.the-row (length ys)) (gm : roomOf (length ys) < 2 ^ 64) (Post : Val → SProp 𝓤) (S : Fml)
+  module _ (b o : ℕ) (ys : List Record) (gn : Room T.the-row (length ys)) (gm : spanOf (length ys) < 2 ^ 64) (Post : Val → SProp 𝓤) (S : Fml)
       (bs : Blocks (code.function .locals)) where
     abbrev m : ℕ
-    m = roomOf (length ys)
+    m = spanOf (length ys)
 
     -- the context at the loop's head: [the locals, 0 to 8; what frees them; the run, 10, with its first slots filled; what closes it]
     abbrev here : Loop W
@@ -66,7 +66,7 @@ module _ {M : Type 1} (𝓤 : URA M) (H : Heap 𝓤) (A : Atoms 𝓤) (W : Given
     turns κs a closes t =
         let zs : List Record = filledTo (t .i) ys in
         sets ! (bin ! (var ! refl) (var ! refl) tt) refl (tt, tt) $ tests ! here t (var ! refl)
-        (λ yes. let l : t .i < m = ltb-true _ _ (holds-true (ltb (t .i) m) yes) in let li : t .i < length ys = omega (arith, room-le (length ys)) in
+        (λ yes. let l : t .i < m = ltb-true _ _ (holds-true (ltb (t .i) m) yes) in let li : t .i < length ys = omega (arith, span-le (length ys)) in
         let same : length ys ≡ length zs = sym (filled-length (t .i) ys) in
         calls-by ! (fmOf 𝓤 H (W .laws) 𝓣) (number ∷ []) item (λ a. freshSlot (a .0)) known-slot (t .i, tt) ((refl, omega (arith, gm)), tt)
         (and-then ! (var ! refl) (no-more !)) refl refl (λ is.
@@ -86,10 +86,10 @@ module _ {M : Type 1} (𝓤 : URA M) (H : Heap 𝓤) (A : Atoms 𝓤) (W : Given
   unfolding filledTo
   walk κs b o ys a gn good Post S closes bs =
       sets ! (of-opd ! (piece ! refl refl refl)) refl (tt, record { fits = gn .0 }) $
-      calls-by ! (fmOf 𝓤 H (W .laws) 𝓣) (number ∷ []) number (λ a. roomOf (a .0)) known-room (length ys, tt) ((refl, gn .0), tt)
+      calls-by ! (fmOf 𝓤 H (W .laws) 𝓣) (number ∷ []) number (λ a. spanOf (a .0)) known-span (length ys, tt) ((refl, gn .0), tt)
       (and-then ! (var ! refl) (no-more !)) refl refl (λ im.
       sets ! (of-opd ! (lit ! tt)) refl (tt, record { fits = lit< tt }) $ forgets ! (4 ∷ []) refl $
-      whiles ! (here b o ys gn (im .1) Post S bs) (fewer-wf (roomOf (length ys))) (turns b o ys gn (im .1) Post S bs κs a closes)
+      whiles ! (here b o ys gn (im .1) Post S bs) (fewer-wf (spanOf (length ys))) (turns b o ys gn (im .1) Post S bs κs a closes)
       (record { i = 0; le = omega arith }))
 
 pub fresh-spec : {M : Type 1} → stated.statement M
@@ -98,7 +98,7 @@ fresh-spec 𝓤 H 𝓜 𝓖 𝓡 =
     entered 𝓤 H _ (tables 𝓤 H 𝓜 𝓡 code.env .C) (tables 𝓤 H 𝓜 𝓡 code.env .Λ) #fresh code.function (code.unfolded 𝓤 H 𝓜 𝓡)
     (lends-as item [] number 𝓤 H (𝓖 .A) (givenOf 𝓤 H 𝓜 𝓖) (tablesOf 𝓤 H 𝓜 (tables 𝓤 H 𝓜 𝓡 code.env)) code.function _ said refl
     (walk 𝓤 H (𝓖 .A) (givenOf 𝓤 H 𝓜 𝓖) (tablesOf 𝓤 H 𝓜 (tables 𝓤 H 𝓜 𝓡 code.env))
-    (cited 𝓤 H _ 𝓜 𝓡 code.env room-def.name room-def.routine code.calls-slots·room (room-thm.met 𝓤 H 𝓜 𝓖 𝓡))
+    (cited 𝓤 H _ 𝓜 𝓡 code.env span-def.name span-def.routine code.calls-slots·span (span-thm.met 𝓤 H 𝓜 𝓖 𝓡))
     (cited 𝓤 H _ 𝓜 𝓡 code.env slot-def.name slot-def.routine code.calls-slots·fresh-slot (slot-thm.met 𝓤 H 𝓜 𝓖 𝓡))
     (cited 𝓤 H _ 𝓜 𝓡 code.env gate-def.name gate-def.routine code.calls-slots·gate (gate-thm.met 𝓤 H 𝓜 𝓖 𝓡)))
     (λ κs a. claim.clauses 𝓤 H (𝓖 .A) (𝓜 .mem) (𝓡 .run) κs a .ensures)

@@ -11,14 +11,14 @@ use denote.Slice.{sliceVal}
 use Rattle.rules.specs.Tables.{outside}
 use Rattle.rules.specs.declared.Record.{Record}
 use Rattle.rules.proofs.Record as T
-use Rattle.slots.specs.Gates.{roomOf}
+use Rattle.slots.specs.Gates.{spanOf}
 use Rattle.slots.specs.Scans.{foundOr, absentOrNext}
 use Rattle.tables.specs.Passes.{scanOf}
 use Rattle.tables.proofs.Asks.{holds-true, holds-false}
-use Rattle.tables.proofs.Passes.{room-few, goes-up, scan-more, scan-end, absent-goes}
+use Rattle.tables.proofs.Passes.{span-few, goes-up, scan-more, scan-end, absent-goes}
 use Rattle.tables.proofs.Slots.{item}
-use Rattle.slots.proofs.room.Symbol as room-def
-use Rattle.slots.proofs.room.Met as room-thm
+use Rattle.slots.proofs.span.Symbol as span-def
+use Rattle.slots.proofs.span.Met as span-thm
 use Rattle.slots.proofs.absent_or_next.Symbol as seek-def
 use Rattle.slots.proofs.absent_or_next.Met as seek-thm
 use Rattle.slots.proofs.found_or.Symbol as last-def
@@ -37,19 +37,19 @@ record At (ys : List Record) : Type 0 where
   same : scanOf absentOrNext k ys ≡ scanOf absentOrNext 0 ys
 
 abbrev fewer : (ys : List Record) → At ys → At ys → Type 0
-fewer ys u t = roomOf (length ys) - u .k < roomOf (length ys) - t .k
+fewer ys u t = spanOf (length ys) - u .k < spanOf (length ys) - t .k
 
 fewer-wf : (ys : List Record) → WellFounded (fewer ys)
-fewer-wf ys = record { apply = λ t. InvImage·accessible (λ (u : At ys). roomOf (length ys) - u .k) (Nat·lt-wfRel .wf .apply (roomOf (length ys) - t .k)) }
+fewer-wf ys = record { apply = λ t. InvImage·accessible (λ (u : At ys). spanOf (length ys) - u .k) (Nat·lt-wfRel .wf .apply (spanOf (length ys) - t .k)) }
 
 module _ {M : Type 1} (𝓤 : URA M) (H : Heap 𝓤) (A : Atoms 𝓤) (W : Given 𝓤 H A) (𝓣 : Tables 𝓤 H)
-    (known-room : Triple 𝓤 (𝓣 .C room-def.name) (Gives 𝓤 H A (number ∷ []) number (λ a. roomOf (a .0))))
+    (known-span : Triple 𝓤 (𝓣 .C span-def.name) (Gives 𝓤 H A (number ∷ []) number (λ a. spanOf (a .0))))
     (known-seek : Triple 𝓤 (𝓣 .C seek-def.name) (Gives 𝓤 H A (number ∷ item ∷ []) number (λ a. absentOrNext (a .0) (a .1 .0))))
     (known-last : Triple 𝓤 (𝓣 .C last-def.name) (Gives 𝓤 H A (number ∷ number ∷ []) number (λ a. foundOr (a .0) (a .1 .0)))) where
   module _ (κs : Lfts 1) (b o : ℕ) (ys : List Record) (a : Ins 1 κs (number ∷ [])) (gn : Room T.the-row (length ys)) (ga : a .0 < 2 ^ 64) (s : Share)
       (Post : Val → SProp 𝓤) (S : Fml) (bs : Blocks (code.function .locals)) where
     abbrev m : ℕ
-    m = roomOf (length ys)
+    m = spanOf (length ys)
 
     -- the context at the loop's head: [the locals, 0 to 9; what frees them; the run, 11; what shuts it]
     abbrev here : Loop W
@@ -70,7 +70,7 @@ module _ {M : Type 1} (𝓤 : URA M) (H : Heap 𝓤) (A : Atoms 𝓤) (W : Given
     turns shuts t =
         let e : Record = getD ys (t .k) outside in let n : ℕ = absentOrNext (t .k) e in
         sets ! (bin ! (var ! refl) (var ! refl) tt) refl (tt, tt) $ tests ! here t (var ! refl)
-        (λ yes. let l : t .k < m = ltb-true _ _ (holds-true (ltb (t .k) m) yes) in let h = room-few (length ys) (t .k) l in
+        (λ yes. let l : t .k < m = ltb-true _ _ (holds-true (ltb (t .k) m) yes) in let h = span-few (length ys) (t .k) l in
         let up : t .k < n = goes-up absentOrNext absent-goes (t .k) e (omega (arith, h .0, h .1)) in
         fetch ! item s ys (t .k) outside b o (h .0) gn 11 refl refl (λ g.
         calls-last ! here t (number ∷ item ∷ []) number (λ a. absentOrNext (a .0) (a .1 .0)) known-seek (t .k, (e, tt)) ((refl, t .fits), (g, tt))
@@ -86,7 +86,7 @@ module _ {M : Type 1} (𝓤 : URA M) (H : Heap 𝓤) (A : Atoms 𝓤) (W : Given
   walk : Look item (number ∷ []) number 𝓤 H A said W 𝓣 code.function
   walk κs b o ys a gn good s Post S shuts bs =
       sets ! (of-opd ! (piece ! refl refl refl)) refl (tt, record { fits = gn .0 }) $
-      calls-by ! (fmOf 𝓤 H (W .laws) 𝓣) (number ∷ []) number (λ a. roomOf (a .0)) known-room (length ys, tt) ((refl, gn .0), tt)
+      calls-by ! (fmOf 𝓤 H (W .laws) 𝓣) (number ∷ []) number (λ a. spanOf (a .0)) known-span (length ys, tt) ((refl, gn .0), tt)
       (and-then ! (var ! refl) (no-more !)) refl refl (λ im.
       sets ! (of-opd ! (lit ! tt)) refl (tt, record { fits = lit< tt }) $ forgets ! (5 ∷ []) refl $
       whiles ! (here κs b o ys a gn (good .0 .1) s Post S bs) (fewer-wf ys) (turns κs b o ys a gn (good .0 .1) s Post S bs shuts)
@@ -98,6 +98,6 @@ lowest-absent-spec 𝓤 H 𝓜 𝓖 𝓡 =
     entered 𝓤 H _ (tables 𝓤 H 𝓜 𝓡 code.env .C) (tables 𝓤 H 𝓜 𝓡 code.env .Λ) #lowest-absent code.function (code.unfolded 𝓤 H 𝓜 𝓡)
     (looks item (number ∷ []) number 𝓤 H (𝓖 .A) said (givenOf 𝓤 H 𝓜 𝓖) (tablesOf 𝓤 H 𝓜 (tables 𝓤 H 𝓜 𝓡 code.env)) code.function _ refl
     (walk 𝓤 H (𝓖 .A) (givenOf 𝓤 H 𝓜 𝓖) (tablesOf 𝓤 H 𝓜 (tables 𝓤 H 𝓜 𝓡 code.env))
-    (cited 𝓤 H _ 𝓜 𝓡 code.env room-def.name room-def.routine code.calls-slots·room (room-thm.met 𝓤 H 𝓜 𝓖 𝓡))
+    (cited 𝓤 H _ 𝓜 𝓡 code.env span-def.name span-def.routine code.calls-slots·span (span-thm.met 𝓤 H 𝓜 𝓖 𝓡))
     (cited 𝓤 H _ 𝓜 𝓡 code.env seek-def.name seek-def.routine code.calls-slots·absent-or-next (seek-thm.met 𝓤 H 𝓜 𝓖 𝓡))
     (cited 𝓤 H _ 𝓜 𝓡 code.env last-def.name last-def.routine code.calls-slots·found-or (last-thm.met 𝓤 H 𝓜 𝓖 𝓡))))

@@ -15,17 +15,17 @@ use Rattle.rules.specs.Stored.{absent}
 use Rattle.rules.specs.Tables.{outside}
 use Rattle.rules.specs.declared.Record.{Record}
 use Rattle.rules.proofs.Record as T
-use Rattle.slots.specs.Gates.{roomOf}
+use Rattle.slots.specs.Gates.{spanOf}
 use Rattle.slots.specs.declared.Scan.{Scan}
 use Rattle.slots.specs.Scans.{foundOr, weighed, weighOf}
 use Rattle.tables.specs.Passes.{scanOf}
 use Rattle.tables.proofs.Asks.{holds-true, holds-false}
-use Rattle.tables.proofs.Passes.{room-few, goes-up, scan-more, scan-end, weigh-goes}
+use Rattle.tables.proofs.Passes.{span-few, goes-up, scan-more, scan-end, weigh-goes}
 use Rattle.slots.proofs.Scan as Z
 use Rattle.slots.proofs.Scan.Laws as Z′
 use Rattle.tables.proofs.Slots.{item, scan}
-use Rattle.slots.proofs.room.Symbol as room-def
-use Rattle.slots.proofs.room.Met as room-thm
+use Rattle.slots.proofs.span.Symbol as span-def
+use Rattle.slots.proofs.span.Met as span-thm
 use Rattle.slots.proofs.is_absent.Symbol as absent-def
 use Rattle.slots.proofs.is_absent.Met as absent-thm
 use Rattle.slots.proofs.weigh.Symbol as weigh-def
@@ -49,20 +49,20 @@ record At (ys : List Record) (c : Scan) : Type 0 where
   same : scanOf (weighOf c) k ys ≡ scanOf (weighOf c) (c .from) ys
 
 abbrev fewer : (ys : List Record) (c : Scan) → At ys c → At ys c → Type 0
-fewer ys c u t = roomOf (length ys) - u .k < roomOf (length ys) - t .k
+fewer ys c u t = spanOf (length ys) - u .k < spanOf (length ys) - t .k
 
 fewer-wf : (ys : List Record) (c : Scan) → WellFounded (fewer ys c)
-fewer-wf ys c = record { apply = λ t. InvImage·accessible (λ (u : At ys c). roomOf (length ys) - u .k) (Nat·lt-wfRel .wf .apply (roomOf (length ys) - t .k)) }
+fewer-wf ys c = record { apply = λ t. InvImage·accessible (λ (u : At ys c). spanOf (length ys) - u .k) (Nat·lt-wfRel .wf .apply (spanOf (length ys) - t .k)) }
 
 module _ {M : Type 1} (𝓤 : URA M) (H : Heap 𝓤) (A : Atoms 𝓤) (W : Given 𝓤 H A) (𝓣 : Tables 𝓤 H)
-    (known-room : Triple 𝓤 (𝓣 .C room-def.name) (Gives 𝓤 H A (number ∷ []) number (λ a. roomOf (a .0))))
+    (known-span : Triple 𝓤 (𝓣 .C span-def.name) (Gives 𝓤 H A (number ∷ []) number (λ a. spanOf (a .0))))
     (known-absent : Triple 𝓤 (𝓣 .C absent-def.name) (Gives 𝓤 H A (item ∷ []) truth (λ a. absent narrow (a .0))))
     (known-weigh : Triple 𝓤 (𝓣 .C weigh-def.name) (Gives 𝓤 H A (scan ∷ number ∷ item ∷ truth ∷ []) number weighs))
     (known-last : Triple 𝓤 (𝓣 .C last-def.name) (Gives 𝓤 H A (number ∷ number ∷ []) number (λ a. foundOr (a .0) (a .1 .0)))) where
   module _ (κs : Lfts 1) (b o : ℕ) (ys : List Record) (a : Ins 1 κs (scan ∷ [])) (gn : Room T.the-row (length ys))
       (gc : Is Z.the-row (a .0) (scan .val (a .0) ∷ [])) (s : Share) (Post : Val → SProp 𝓤) (S : Fml) (bs : Blocks (code.function .locals)) where
     abbrev m : ℕ
-    m = roomOf (length ys)
+    m = spanOf (length ys)
 
     -- the context at the loop's head: [the locals, 0 to 12; what frees them; the run, 14; what shuts it]
     abbrev here : Loop W
@@ -83,7 +83,7 @@ module _ {M : Type 1} (𝓤 : URA M) (H : Heap 𝓤) (A : Atoms 𝓤) (W : Given
     turns shuts t =
         let c : Scan = a .0 in let e : Record = getD ys (t .k) outside in let n : ℕ = weighOf c (t .k) e in
         sets ! (bin ! (var ! refl) (var ! refl) tt) refl (tt, tt) $ tests ! here t (var ! refl)
-        (λ yes. let l : t .k < m = ltb-true _ _ (holds-true (ltb (t .k) m) yes) in let h = room-few (length ys) (t .k) l in
+        (λ yes. let l : t .k < m = ltb-true _ _ (holds-true (ltb (t .k) m) yes) in let h = span-few (length ys) (t .k) l in
         let up : t .k < n = goes-up (weighOf c) (weigh-goes c) (t .k) e (omega (arith, h .0, h .1)) in
         fetch ! item s ys (t .k) outside b o (h .0) gn 14 refl refl (λ g. fetch ! item s ys (t .k) outside b o (h .0) gn 14 refl refl (λ _.
         calls-by ! (fmOf 𝓤 H (W .laws) 𝓣) (item ∷ []) truth (λ a. absent narrow (a .0)) known-absent (e, tt) (g, tt) (and-then ! (var ! refl) (no-more !)) refl
@@ -104,7 +104,7 @@ module _ {M : Type 1} (𝓤 : URA M) (H : Heap 𝓤) (A : Atoms 𝓤) (W : Given
   walk κs b o ys a gn good s Post S shuts bs =
       let fields = LL.owed Z.the-type Z′.the-laws (a .0) _ (good .0) in
       sets ! (of-opd ! (piece ! refl refl refl)) refl (tt, record { fits = gn .0 }) $
-      calls-by ! (fmOf 𝓤 H (W .laws) 𝓣) (number ∷ []) number (λ a. roomOf (a .0)) known-room (length ys, tt) ((refl, gn .0), tt)
+      calls-by ! (fmOf 𝓤 H (W .laws) 𝓣) (number ∷ []) number (λ a. spanOf (a .0)) known-span (length ys, tt) ((refl, gn .0), tt)
       (and-then ! (var ! refl) (no-more !)) refl refl (λ im.
       sets ! (of-opd ! (piece ! refl refl refl)) refl (tt, record { fits = fields .0 .1 }) $ forgets ! (5 ∷ []) refl $
       whiles ! (here κs b o ys a gn (good .0) s Post S bs) (fewer-wf ys (a .0)) (turns κs b o ys a gn (good .0) s Post S bs shuts)
@@ -116,7 +116,7 @@ weigh-all-spec 𝓤 H 𝓜 𝓖 𝓡 =
     entered 𝓤 H _ (tables 𝓤 H 𝓜 𝓡 code.env .C) (tables 𝓤 H 𝓜 𝓡 code.env .Λ) #weigh-all code.function (code.unfolded 𝓤 H 𝓜 𝓡)
     (looks item (scan ∷ []) number 𝓤 H (𝓖 .A) said (givenOf 𝓤 H 𝓜 𝓖) (tablesOf 𝓤 H 𝓜 (tables 𝓤 H 𝓜 𝓡 code.env)) code.function _ refl
     (walk 𝓤 H (𝓖 .A) (givenOf 𝓤 H 𝓜 𝓖) (tablesOf 𝓤 H 𝓜 (tables 𝓤 H 𝓜 𝓡 code.env))
-    (cited 𝓤 H _ 𝓜 𝓡 code.env room-def.name room-def.routine code.calls-slots·room (room-thm.met 𝓤 H 𝓜 𝓖 𝓡))
+    (cited 𝓤 H _ 𝓜 𝓡 code.env span-def.name span-def.routine code.calls-slots·span (span-thm.met 𝓤 H 𝓜 𝓖 𝓡))
     (cited 𝓤 H _ 𝓜 𝓡 code.env absent-def.name absent-def.routine code.calls-slots·is-absent (absent-thm.met 𝓤 H 𝓜 𝓖 𝓡))
     (cited 𝓤 H _ 𝓜 𝓡 code.env weigh-def.name weigh-def.routine code.calls-slots·weigh (weigh-thm.met 𝓤 H 𝓜 𝓖 𝓡))
     (cited 𝓤 H _ 𝓜 𝓡 code.env last-def.name last-def.routine code.calls-slots·found-or (last-thm.met 𝓤 H 𝓜 𝓖 𝓡))))

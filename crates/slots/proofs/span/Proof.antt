@@ -1,0 +1,17 @@
+-- `slots::span` meets its contract. Assumes nothing.
+use native.Mathlib.Omega.{arith}
+use borrow.Author.Tests.{lt-ltb, le-ltb}
+use Rattle.slots.specs.Gates.{spanOf}
+use Rattle.slots.proofs.span.Statement.{statement}
+use Rattle.slots.proofs.span.Tie as tie
+
+returns : tie.Need-returns
+unfolding spanOf
+returns c = simp (lt-ltb 32 (c .before .args .n) (omega arith))
+
+returns-2 : tie.Need-returns-2
+unfolding spanOf
+returns-2 c = simp (le-ltb 32 (c .before .args .n) (omega arith))
+
+pub span-spec : {M : Type 1} → statement M
+span-spec = tie.close (tie.spec returns returns-2)
