@@ -151,7 +151,13 @@ pub fn room(stamp: &[u8]) -> u64
 }
 
 // The join of two lawful stamps that may meet, each in the words of its names: 7 and 10 are left to refuse.
-fn write_joined<'a>(u: &'a [u64], i: &'a [u64], v: &'a [u64], j: &'a [u64], out: &mut [u8]) -> Written
+fn write_joined<'a>(
+    u: &'a [u64],
+    i: &'a [u64],
+    v: &'a [u64],
+    j: &'a [u64],
+    out: &mut [u8],
+) -> Written
     requires { ⌜ Lent (now u) (now i) × Lent (now v) (now j) ⌝ }
     ensures { λ w. ⌜ (w ≡ wroteJoin (stampOf (now (u .entry)) (now (i .entry))) (stampOf (now (v .entry)) (now (j .entry))) (now (out .entry)) .answer)
         × (now (out .exit) ≡ wroteJoin (stampOf (now (u .entry)) (now (i .entry))) (stampOf (now (v .entry)) (now (j .entry))) (now (out .entry)) .out) ⌝ }

@@ -4,11 +4,9 @@
 ghost use mathlib.Core.Path.{_≡_};
 ghost use mathlib.Core.List.{[]};
 ghost use Prim.Native.Nat.{_≤_};
-ghost use lib.ListN.{take};
 ghost use Rattle.rules.specs.Limits.{narrow};
 ghost use Rattle.rules.specs.Refusals.{first};
 ghost use Rattle.rules.specs.Stored.{absent};
-ghost use Rattle.walks.specs.Walks.{compareWalk};
 ghost use Rattle.slots.specs.Gates.{gateCode, spanOf, freshSlot};
 ghost use Rattle.slots.specs.Rules.{tableCode, answerCode, fullCode, slotTests, pairTests, updateRule, forkRule, joinRule, compareRule};
 ghost use Rattle.slots.specs.Scans.{absentOrNext, weighed, weighStart, onwardTo, foundOr, obsoleteNumber, spareCode, meetCode};
@@ -58,14 +56,6 @@ pub struct Scan {
     pub from: usize,
     pub at: usize,
     pub mine: Record,
-}
-
-// How many words of each of two stamps' names count: u and v of updates, i and j of ids.
-struct Fronts {
-    u: usize,
-    i: usize,
-    v: usize,
-    j: usize,
 }
 
 // What can be refused without looking at a record: 0, or the refusal.
@@ -351,34 +341,15 @@ fn meet_code(m: Record, r: Record) -> u64
     ensures { λ n. ⌜ n ≡ meetCode m r ⌝ }
 {
     if is_lawful_in(&r.update.words, r.update.count, &r.id.words, r.id.count) {
-        let c = Fronts {
-            u: m.update.count,
-            i: m.id.count,
-            v: r.update.count,
-            j: r.id.count,
-        };
-        return spare_code(compare_in(
-            &m.update.words,
-            &m.id.words,
-            &r.update.words,
-            &r.id.words,
-            c,
-        ));
+        let c = walks::compare(
+            counted(&m.update.words, m.update.count),
+            counted(&m.id.words, m.id.count),
+            counted(&r.update.words, r.update.count),
+            counted(&r.id.words, r.id.count),
+        );
+        return spare_code(c);
     }
     UNFIT
-}
-
-// How a stamp stands to a second, by the words that count: u and v of updates, i and j of ids.
-fn compare_in<'a>(u: &'a [u64], i: &'a [u64], v: &'a [u64], j: &'a [u64], c: Fronts) -> Compared
-    ensures { λ r. ⌜ r ≡ compareWalk (take (c .u) (now (u .entry))) (take (c .i) (now (i .entry)))
-        (take (c .v) (now (v .entry))) (take (c .j) (now (j .entry))) ⌝ }
-{
-    walks::compare(
-        counted(u, c.u),
-        counted(i, c.i),
-        counted(v, c.v),
-        counted(j, c.j),
-    )
 }
 
 // 1 where the comparison lets the first go, 0 where it keeps it.

@@ -1,5 +1,6 @@
--- `slots::meet_code` meets its contract: what the walk tells beside a lawful record, and else 12. Assumes nothing.
+-- `slots::meet_code` meets its contract: what the walk over the words that count tells beside a lawful record, and else 12. Assumes nothing.
 use mathlib.Core.Path.{sym, ap, _∙_}
+use Rattle.walks.specs.Walks.{compareWalk}
 use Rattle.slots.specs.Scans.{meetCode, spareCode}
 use borrow.Author.Needs.{needs}
 use Rattle.slots.proofs.meet_code.Statement.{statement}
@@ -8,8 +9,20 @@ use Rattle.slots.proofs.meet_code.Tie as tie
 is-lawful-in-requires : tie.Need-is-lawful-in-requires
 is-lawful-in-requires c κs = search needs
 
-compare-in-requires : tie.Need-compare-in-requires
-compare-in-requires c κs = search needs
+counted-requires : tie.Need-counted-requires
+counted-requires c κs = search needs
+
+counted-requires-2 : tie.Need-counted-requires-2
+counted-requires-2 c κs = search needs
+
+counted-requires-3 : tie.Need-counted-requires-3
+counted-requires-3 c κs = search needs
+
+counted-requires-4 : tie.Need-counted-requires-4
+counted-requires-4 c κs = search needs
+
+compare-requires : tie.Need-compare-requires
+compare-requires c κs = search needs
 
 spare-code-requires : tie.Need-spare-code-requires
 spare-code-requires c κs = search needs
@@ -18,9 +31,15 @@ returns : tie.Need-returns
 unfolding meetCode
 returns c =
     let k = c .before in
-    let l = k .before .before .before .before .before .before .before .before .before .before .before in
+    let j = k .before in
+    let v = j .before .before .before in
+    let i = v .before .before .before .before in
+    let u = i .before .before .before in
+    let l = u .before .before .before .before in
     simp (sym (l .before .is-lawful-in .ensures) ∙ l .if1 .taken)
-    (c .spare-code .ensures ∙ ap spareCode (k .compare-in .ensures))
+    (c .spare-code .ensures
+    ∙ ap spareCode
+      (k .compare .ensures ∙ (λ n. compareWalk (u .counted .ensures .1 n) (i .counted2 .ensures .1 n) (v .counted3 .ensures .1 n) (j .counted4 .ensures .1 n))))
 
 returns-2 : tie.Need-returns-2
 unfolding meetCode
@@ -29,4 +48,13 @@ returns-2 c = simp (sym (c .before .is-lawful-in .ensures) ∙ c .if1 .left)
 pub meet-code-spec : {M : Type 1} → statement M
 meet-code-spec =
     tie.close
-    (tie.spec is-lawful-in-requires compare-in-requires spare-code-requires returns returns-2)
+    (tie.spec
+    is-lawful-in-requires
+    counted-requires
+    counted-requires-2
+    counted-requires-3
+    counted-requires-4
+    compare-requires
+    spare-code-requires
+    returns
+    returns-2)
