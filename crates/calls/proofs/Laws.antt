@@ -97,24 +97,8 @@ module _ (L : Limits) (room : L .digits ≤ 58) where
             let q = lawful-fork L true (held r) (stored-lawful L r h) grows in
             (is-stored L room x p, is-stored L room y q, rw (held-stored L room x p, held-stored L room y q) (forks-length L (held r)))
 
-  pub joined-stored : (a b : Record) → isStored L a ≡ true → isStored L b ≡ true → joined L a b .answer ≡ Done → isStored L (joined L a b .stamp) ≡ true
-  unfolding joined
-  joined-stored a b h k =
-      let j = join (held a) (held b) in
-      given-stored _ j (λ d.
-      let p = none-holds (unlawful L a) Unlawful _ d .1 in
-      let q = none-holds (unlawful L b) Unlawful _ p .1 in
-      let o = none-holds (overlap (held a) (held b)) Overlap _ q .1 in
-      let u = none-holds (unseen (held a) (held b)) Unseen _ o .1 in
-      lawful-join L (held a) (held b) (stored-lawful L a h) (stored-lawful L b k) (none-holds (many L j) Many [] u .0))
-
   -- ---- a stored record is written as it is
 
   pub written-is : (r : Record) (l : List ℕ) → isStored L r ≡ true → writtenStamp L r l ≡ wrote Done (packed L (held r)) l
   unfolding writtenStamp first
   written-is r l h = rw (stored-not-unlawful L r h)
-
-  pub written-fits : (r : Record) (l : List ℕ) → isStored L r ≡ true → length (packed L (held r)) ≤ length l
-      → writtenStamp L r l ≡ record { answer = Bytes (length (packed L (held r))); out = over (packed L (held r)) l }
-  unfolding wrote
-  written-fits r l h k = written-is r l h ∙ rw (le-ltb (length l) (length (packed L (held r))) k)
