@@ -39,7 +39,7 @@ returns c =
     simp (sym (l .before .is-lawful-in .ensures) ∙ l .if1 .taken)
     (c .spare-code .ensures
     ∙ ap spareCode
-      (k .compare .ensures ∙ (λ n. compareWalk (u .counted .ensures .1 n) (i .counted2 .ensures .1 n) (v .counted3 .ensures .1 n) (j .counted4 .ensures .1 n))))
+    (k .compare .ensures ∙ (λ n. compareWalk (u .counted .ensures .1 n) (i .counted2 .ensures .1 n) (v .counted3 .ensures .1 n) (j .counted4 .ensures .1 n))))
 
 returns-2 : tie.Need-returns-2
 unfolding meetCode
