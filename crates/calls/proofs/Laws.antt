@@ -1,13 +1,7 @@
 -- What is read as a stamp is the stored shape of a lawful one, and so is what the rules make of such records: none of the later tests for
 -- an unlawful record holds, and a packed call ends as writing the rules' result does. Assumes nothing.
-use mathlib.Core.Path.{_≡_, refl, sym, ap, _∙_, subst}
-use mathlib.Core.Bool.{Bool, true, false, not}
-use mathlib.Core.List.{List, [], _∷_}
-use mathlib.Core.Option.{Option, none, some}
-use Prim.Native.Nat.{ℕ, _≤_}
-use native.Mathlib.Omega.{arith}
-use borrow.Author.Tests.{not-false, le-ltb}
-use lib.ListN.{length}
+use Rattle.laws.proofs.Library.{_≡_, refl, sym, ap, _∙_, subst, Bool, true, false, not, List, [], _∷_, Option, none, some, ℕ, _≤_, arith, not-false, le-ltb}
+use Rattle.laws.proofs.Library.{length}
 use Rattle.rules.specs.Limits.{Limits}
 use Rattle.rules.specs.Stamps.{Stamp, lawful, update, fork, join}
 use Rattle.rules.specs.Stored.{held, isStored, unlawful}

@@ -1,8 +1,6 @@
 -- Each public contract is an equation for the result and for what was lent, so it leaves one answer. Assumes nothing.
 -- `keep` gives back a slice, and of a part of a slice the contract fixes address and bytes, not the name that the checker gives it.
-use mathlib.Core.Path.{_≡_, refl, ap}
-use mathlib.Core.List.{List}
-use Prim.Native.Nat.{ℕ}
+use Rattle.laws.proofs.Library.{_≡_, refl, ap, List, ℕ}
 use denote.Ref.{RefT, now}
 use Rattle.rules.specs.Limits.{narrow}
 use Rattle.rules.specs.Packed.{Side, theFirst, theSecond, neither, sideOf, packedCompare}

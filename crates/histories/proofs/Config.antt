@@ -1,14 +1,7 @@
 -- Configurations: what each slot holds, with no limits, and what every history keeps of it (Invariants 4.4 to 4.6 and Proposition 5.1
 -- of the paper). It survives forgetting slots, and a step that moves copies without changing what they know. Assumes nothing.
-use mathlib.Core.Path.{_≡_, refl, sym, ap, _∙_, subst}
-use mathlib.Core.Bool.{Bool, true, false, cond}
-use mathlib.Core.List.{List, [], _∷_, _++_}
-use mathlib.Core.Logic.{inl, inr, ⊎-elim}
-use Prim.Native.Nat.{ℕ, _≤_, _<_}
-use native.Mathlib.Omega.{arith}
-use lib.Dec.{eqb}
-use lib.ListN.{length}
-use borrow.Author.Tests.{eqb-true, eqb-false}
+use Rattle.laws.proofs.Library.{_≡_, refl, sym, ap, _∙_, subst, Bool, true, false, cond, List, [], _∷_, _++_, inl, inr, ⊎-elim, ℕ, _≤_, _<_, arith, eqb}
+use Rattle.laws.proofs.Library.{length, eqb-true, eqb-false}
 use Rattle.rules.specs.Strings.{Str, prefix}
 use Rattle.rules.specs.Names.{all, rising, covered}
 use Rattle.rules.specs.Stamps.{Stamp, start}

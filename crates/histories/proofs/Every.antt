@@ -1,8 +1,6 @@
 -- Every history of calls on a fresh table leaves it right: the fresh table keeps the invariant, each call keeps it, and it says all that
 -- is promised. It holds at any limits whose strings fit a word and whose names hold a string. Assumes nothing.
-use mathlib.Core.List.{List, [], _∷_}
-use Prim.Native.Nat.{ℕ, _≤_}
-use native.Mathlib.Omega.{arith}
+use Rattle.laws.proofs.Library.{List, [], _∷_, ℕ, _≤_, arith}
 use Rattle.rules.specs.Limits.{Limits, narrow}
 use Rattle.rules.specs.Histories.{Call, World, after, afterAll, begin, history}
 use Rattle.rules.specs.Promises.{EveryHistory}

@@ -1,10 +1,6 @@
 -- A fork keeps a configuration sound: update names and events are copied, so the new slot reads as the old one; and what the id strings
 -- cover grows by those strings alone, which no update name covers. Assumes nothing.
-use mathlib.Core.Path.{_≡_, refl, sym, ap, _∙_, subst}
-use mathlib.Core.Bool.{Bool, true, false, cond}
-use mathlib.Core.List.{[], _∷_}
-use mathlib.Core.Logic.{_⊎_, ⊎-elim}
-use Prim.Native.Nat.{ℕ}
+use Rattle.laws.proofs.Library.{_≡_, refl, sym, ap, _∙_, subst, Bool, true, false, cond, [], _∷_, _⊎_, ⊎-elim, ℕ}
 use Rattle.rules.specs.Strings.{Str, prefix, _▹_}
 use Rattle.rules.specs.Names.{Name, covered}
 use Rattle.rules.specs.Stamps.{append, fork}

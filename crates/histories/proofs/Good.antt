@@ -1,13 +1,7 @@
 -- The invariant of a table and its events: the configuration is sound, every present record is a stored shape, and the shares add up to
 -- the whole. The fresh table has it. Assumes nothing.
-use mathlib.Core.Path.{_≡_, refl, ap, _∙_}
-use mathlib.Core.Bool.{true, false, not, _||_}
-use mathlib.Core.List.{[]}
-use Prim.Native.Nat.{ℕ, _≤_, _<_}
-use native.Mathlib.Omega.{arith}
-use lib.Dec.{eqb, leb}
-use lib.ListN.{length, set, replicate, length-set, length-replicate, getD-replicate}
-use borrow.Author.Tests.{eqb-true, lt-leb}
+use Rattle.laws.proofs.Library.{_≡_, refl, ap, _∙_, true, false, not, _||_, [], ℕ, _≤_, _<_, arith, eqb, leb, length, set, replicate, length-set}
+use Rattle.laws.proofs.Library.{length-replicate, getD-replicate, eqb-true, lt-leb}
 use Rattle.rules.specs.Limits.{Limits}
 use Rattle.rules.specs.Strings.{whole}
 use Rattle.rules.specs.Stamps.{Stamp, lawful, start}

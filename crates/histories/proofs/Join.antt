@@ -1,10 +1,5 @@
 -- A join keeps a configuration sound: it is the unreduced join, then single steps of reduction. Assumes nothing.
-use mathlib.Core.Path.{_≡_, refl}
-use mathlib.Core.Bool.{true, false}
-use mathlib.Core.List.{_++_}
-use Prim.Native.Nat.{ℕ}
-use lib.Dec.{eqb}
-use borrow.Author.Tests.{eq-eqb, ne-eqb}
+use Rattle.laws.proofs.Library.{_≡_, refl, true, false, _++_, ℕ, eqb, eq-eqb, ne-eqb}
 use Rattle.rules.specs.Strings.{Str, _▹_}
 use Rattle.rules.specs.Stamps.{Stamp, settled, unite, join}
 use Rattle.laws.proofs.Tests.{In}

@@ -1,11 +1,6 @@
 -- One step of reduction keeps a configuration sound: s0 and s1 give way to s in one copy, and no other copy's id covers any of the three
 -- (Invariant 4.5), so nothing that another copy's name is asked changes (section 6 of the paper). Assumes nothing.
-use mathlib.Core.Path.{_≡_, refl, sym, _∙_, subst}
-use mathlib.Core.Bool.{Bool, true, false}
-use mathlib.Core.List.{List, []}
-use mathlib.Core.Logic.{inr, ⊎-elim}
-use Prim.Native.Nat.{ℕ, _≤_}
-use lib.ListN.{length}
+use Rattle.laws.proofs.Library.{_≡_, refl, sym, _∙_, subst, Bool, true, false, List, [], inr, ⊎-elim, ℕ, _≤_, length}
 use Rattle.rules.specs.Strings.{Str, prefix, _▹_}
 use Rattle.rules.specs.Names.{rising, covered}
 use Rattle.rules.specs.Stamps.{settle, settled}

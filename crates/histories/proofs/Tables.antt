@@ -1,15 +1,7 @@
 -- What a table holds after a store, which slot a fork takes, what the shares of all slots come to after a store, and what a call's
 -- answer tells of its tests. Assumes nothing.
-use mathlib.Core.Path.{_≡_, refl, sym, ap, _∙_}
-use mathlib.Core.Bool.{Bool, true, false, cond, not, _&&_, _||_}
-use mathlib.Core.List.{List, [], _∷_}
-use Prim.Native.Nat.{ℕ, zero, suc, _+_, _≤_, _<_}
-use native.Mathlib.Nat.{sub-zero}
-use native.Mathlib.Omega.{arith}
-use lib.Dec.{eqb, leb}
-use lib.ListN.{length, getD, set, replicate, length-set}
-use lib.Seq.{getD-set-same, getD-set-other}
-use borrow.Author.Tests.{leb-false, lt-leb}
+use Rattle.laws.proofs.Library.{_≡_, refl, sym, ap, _∙_, Bool, true, false, cond, not, _&&_, _||_, List, [], _∷_, ℕ, zero, suc, _+_, _≤_, _<_, sub-zero}
+use Rattle.laws.proofs.Library.{arith, eqb, leb, length, getD, set, replicate, length-set, getD-set-same, getD-set-other, leb-false, lt-leb}
 use Rattle.rules.specs.Limits.{Limits}
 use Rattle.rules.specs.Strings.{share, whole}
 use Rattle.rules.specs.Stamps.{Stamp, start, lawful, join, sumShares}

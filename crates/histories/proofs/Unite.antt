@@ -1,11 +1,6 @@
 -- The unreduced join of two copies keeps a configuration sound: events and what names cover both become unions, so the slot that is left
 -- reads as the two slots of before. Assumes nothing.
-use mathlib.Core.Path.{_≡_, refl, sym, ap, _∙_}
-use mathlib.Core.Bool.{true, false}
-use mathlib.Core.List.{List, [], _∷_, _++_}
-use mathlib.Core.Logic.{_⊎_, inl, inr, ⊎-elim}
-use Prim.Native.Nat.{ℕ}
-use lib.Dec.{eqb}
+use Rattle.laws.proofs.Library.{_≡_, refl, sym, ap, _∙_, true, false, List, [], _∷_, _++_, _⊎_, inl, inr, ⊎-elim, ℕ, eqb}
 use Rattle.rules.specs.Strings.{Str, prefix}
 use Rattle.rules.specs.Names.{Name, covered, union}
 use Rattle.rules.specs.Stamps.{Stamp, unite}

@@ -1,12 +1,6 @@
 -- An update keeps a configuration sound: the new event is in no other copy, no other copy covers a string of the updated copy's id,
 -- and what its id covers of another's update name it had seen before (Invariant 4.6). Assumes nothing.
-use mathlib.Core.Path.{_≡_, refl, sym, _∙_, subst}
-use mathlib.Core.Bool.{true}
-use mathlib.Core.List.{List, _∷_}
-use mathlib.Core.Logic.{inl, inr, ⊎-elim}
-use Prim.Native.Nat.{ℕ, suc, _≤_, _<_}
-use native.Mathlib.Omega.{arith}
-use lib.ListN.{length}
+use Rattle.laws.proofs.Library.{_≡_, refl, sym, _∙_, subst, true, List, _∷_, inl, inr, ⊎-elim, ℕ, suc, _≤_, _<_, arith, length}
 use Rattle.rules.specs.Strings.{Str}
 use Rattle.rules.specs.Names.{covered}
 use Rattle.rules.specs.Stamps.{update}

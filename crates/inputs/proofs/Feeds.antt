@@ -1,12 +1,6 @@
 -- What gathering, running and printing a piece leave in the buffers, one after the other, is what the piece's definitions say. Assumes nothing.
-use mathlib.Core.Path.{_≡_, refl, sym, ap, _∙_}
-use mathlib.Core.Bool.{Bool, true, false, cond, _&&_}
-use mathlib.Core.List.{List, [], _∷_, _++_, append-nil}
-use Prim.Native.Nat.{ℕ, _+_, _*_, _-_, _/_, _≤_, _<_}
-use native.Mathlib.Omega.{arith}
-use borrow.Author.Tests.{le-leb, leb-true, leb-false}
-use lib.Dec.{eqb, leb}
-use lib.ListN.{length, take, drop, length-append, drop-of-length-le}
+use Rattle.laws.proofs.Library.{_≡_, refl, sym, ap, _∙_, Bool, true, false, cond, _&&_, List, [], _∷_, _++_, append-nil, ℕ, _+_, _*_, _-_, _/_, _≤_, _<_}
+use Rattle.laws.proofs.Library.{arith, le-leb, leb-true, leb-false, eqb, leb, length, take, drop, length-append, drop-of-length-le}
 use Rattle.rules.specs.Limits.{narrow}
 use Rattle.rules.specs.Packed.{over}
 use Rattle.rules.specs.Tables.{Table}

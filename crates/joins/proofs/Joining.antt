@@ -1,14 +1,7 @@
 -- The words of the join of two lawful stamps as its record: refused where the id has more strings than a name has, and else its stored shape.
 -- Assumes nothing.
-use mathlib.Core.Path.{_≡_, refl, sym, ap, ap₂, _∙_}
-use mathlib.Core.Bool.{Bool, true, cond}
-use mathlib.Core.List.{List, [], _∷_, _++_, map}
-use mathlib.Core.Logic.{inl, inr}
-use Prim.Native.Nat.{ℕ, _-_, _≤_, _<_}
-use native.Mathlib.Omega.{arith}
-use borrow.Author.Tests.{lt-ltb, le-ltb}
-use lib.ListN.{length, take, replicate, length-map}
-use lib.Seq.{length-take-le}
+use Rattle.laws.proofs.Library.{_≡_, refl, sym, ap, ap₂, _∙_, Bool, true, cond, List, [], _∷_, _++_, map, inl, inr, ℕ, _-_, _≤_, _<_, arith, lt-ltb, le-ltb}
+use Rattle.laws.proofs.Library.{length, take, replicate, length-map, length-take-le}
 use Rattle.rules.specs.Limits.{narrow}
 use Rattle.rules.specs.Strings.{wordOf, strOf, isWord}
 use Rattle.rules.specs.Names.{Name, all}

@@ -1,6 +1,5 @@
 -- Below is an order on names, and a question about down-sets: m is below n exactly when whatever m covers, n covers. Assumes nothing.
-use mathlib.Core.Path.{_≡_, refl, sym, subst}
-use mathlib.Core.Bool.{true}
+use Rattle.laws.proofs.Library.{_≡_, refl, sym, subst, true}
 use Rattle.rules.specs.Strings.{Str, prefix, same}
 use Rattle.rules.specs.Names.{Name, member, rising, covered, below}
 use Rattle.laws.proofs.Tests.{In, Some, any-some, some-any, all-each, each-all}

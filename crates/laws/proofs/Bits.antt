@@ -1,14 +1,8 @@
 -- Numbers and their bits: a field of any width says the number's low bits, and bits are the field of the number that they say.
 -- Assumes nothing.
-use mathlib.Core.Path.{_≡_, refl, sym, ap, ap₂, _∙_}
-use mathlib.Core.Bool.{Bool, true, false}
-use mathlib.Core.List.{List, [], _∷_, _++_}
-use Prim.Native.Nat.{ℕ, zero, suc, _+_, _*_, _-_, _/_, _%_, _^_, _≤_, _<_}
-use native.Mathlib.Nat.{pow-suc, le-of-suc-le-suc, not-suc-le-zero, mul-assoc, mul-comm, add-mul, mod-eq-of-lt, mul-le-mul-right}
-use native.Mathlib.Omega.{arith}
-use lib.Dec.{eqb}
-use lib.Pow.{mod-pow-add, high}
-use lib.ListN.{length, getD, replicate}
+use Rattle.laws.proofs.Library.{_≡_, refl, sym, ap, ap₂, _∙_, Bool, true, false, List, [], _∷_, _++_, ℕ, zero, suc, _+_, _*_, _-_, _/_, _%_, _^_}
+use Rattle.laws.proofs.Library.{_≤_, _<_, pow-suc, le-of-suc-le-suc, not-suc-le-zero, mul-assoc, mul-comm, add-mul, mod-eq-of-lt, mul-le-mul-right}
+use Rattle.laws.proofs.Library.{arith, eqb, mod-pow-add, high, length, getD, replicate}
 use Rattle.rules.specs.Strings.{digit, field, valueFrom, value}
 
 pub field-length : (w a : ℕ) → length (field w a) ≡ w

@@ -1,13 +1,7 @@
 -- A pigeonhole: where each element of one list meets an element of another, and no two meet the same one, the first list is no longer.
 -- So a name below another has no more strings than it: two prefixes of one string are comparable, and in a name none is a prefix of another.
 -- Assumes nothing.
-use mathlib.Core.Path.{_≡_, refl, sym, ap, _∙_, subst}
-use mathlib.Core.Bool.{true}
-use mathlib.Core.List.{List, [], _∷_}
-use mathlib.Core.Logic.{_⊎_, inl, inr, ⊎-elim}
-use Prim.Native.Nat.{suc, _≤_, zero-le}
-use native.Mathlib.Omega.{arith}
-use lib.ListN.{length}
+use Rattle.laws.proofs.Library.{_≡_, refl, sym, ap, _∙_, subst, true, List, [], _∷_, _⊎_, inl, inr, ⊎-elim, suc, _≤_, zero-le, arith, length}
 use Rattle.rules.specs.Strings.{Str, prefix}
 use Rattle.rules.specs.Names.{Name, rising, below}
 use Rattle.laws.proofs.Tests.{clash, In}

@@ -1,15 +1,7 @@
 -- A name with one digit appended to each string: as many strings, still in rising order, no two of them siblings since all end alike;
 -- and it covers what the name covers and its own strings besides. Assumes nothing.
-use mathlib.Core.Path.{_≡_, refl, sym, ap, _∙_, subst}
-use mathlib.Core.Bool.{Bool, true, false}
-use mathlib.Core.List.{[], _∷_, dropLast}
-use mathlib.Core.Logic.{_⊎_, inl, inr, ⊎-elim}
-use mathlib.Core.Option.{none}
-use Prim.Native.Nat.{ℕ, suc, _≤_}
-use native.Mathlib.Omega.{arith}
-use lib.Dec.{eqb, leb}
-use lib.ListN.{length, length-map}
-use borrow.Author.Tests.{leb-true, eqb-false, le-leb}
+use Rattle.laws.proofs.Library.{_≡_, refl, sym, ap, _∙_, subst, Bool, true, false, [], _∷_, dropLast, _⊎_, inl, inr, ⊎-elim, none, ℕ, suc, _≤_}
+use Rattle.laws.proofs.Library.{arith, eqb, leb, length, length-map, leb-true, eqb-false, le-leb}
 use Rattle.rules.specs.Strings.{Str, prefix, less, _▹_}
 use Rattle.rules.specs.Names.{Name, any, all, rising, covered, below}
 use Rattle.rules.specs.Stamps.{pair, append}

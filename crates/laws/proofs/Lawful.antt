@@ -1,16 +1,7 @@
 -- Lawful stamps stay lawful: the first one is, and update, fork and join make them of lawful ones, where the limits do not refuse.
 -- Since u is below i, the limits are asked of i alone: u has no more strings than i, and none longer. Assumes nothing.
-use mathlib.Core.Path.{_≡_, refl, sym, ap, subst}
-use mathlib.Core.Bool.{Bool, true, false, _&&_}
-use mathlib.Core.List.{[], _∷_}
-use mathlib.Core.Logic.{inl, ⊎-elim}
-use mathlib.Core.Option.{Option, none, some}
-use Prim.Native.Nat.{ℕ, _≤_, suc-le-suc, zero-le}
-use native.Mathlib.Nat.{le-trans}
-use native.Mathlib.Omega.{arith}
-use lib.Dec.{leb}
-use lib.ListN.{length}
-use borrow.Author.Tests.{leb-true, le-leb, ltb-false}
+use Rattle.laws.proofs.Library.{_≡_, refl, sym, ap, subst, Bool, true, false, _&&_, [], _∷_, inl, ⊎-elim, Option, none, some, ℕ, _≤_, suc-le-suc}
+use Rattle.laws.proofs.Library.{zero-le, le-trans, arith, leb, length, leb-true, le-leb, ltb-false}
 use Rattle.rules.specs.Limits.{Limits}
 use Rattle.rules.specs.Strings.{Str, same}
 use Rattle.rules.specs.Names.{Name, any, all, member, rising, isName, below, union}

@@ -16,4 +16,5 @@ pub mod Shares
 pub mod Counts
 pub mod Fork
 pub mod Lawful
+pub mod Library
 pub mod Stored

@@ -1,11 +1,5 @@
 -- Prefix is an order on strings, and two prefixes of one string are comparable. Assumes nothing.
-use mathlib.Core.Path.{_≡_, refl, ap, subst}
-use mathlib.Core.Bool.{Bool, true, false}
-use mathlib.Core.List.{[], _∷_, _++_}
-use mathlib.Core.Logic.{_⊎_, inl, inr, ⊎-elim}
-use Prim.Native.Nat.{_≤_, suc-le-suc}
-use native.Mathlib.Omega.{arith}
-use lib.ListN.{length}
+use Rattle.laws.proofs.Library.{_≡_, refl, ap, subst, Bool, true, false, [], _∷_, _++_, _⊎_, inl, inr, ⊎-elim, _≤_, suc-le-suc, arith, length}
 use Rattle.rules.specs.Strings.{Str, prefix, same, _▹_}
 use Rattle.laws.proofs.Tests.{no, clash, not-true}
 

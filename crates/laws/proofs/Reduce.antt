@@ -1,13 +1,7 @@
 -- Reduction ends in a normal form, since each step leaves one string less in the id; and any order of steps ends there,
 -- since different steps commute. Assumes nothing.
-use mathlib.Core.Path.{_≡_, refl, sym, ap, _∙_, subst}
-use mathlib.Core.Bool.{true, false}
-use mathlib.Core.List.{[], _∷_}
-use mathlib.Core.Logic.{_⊎_, inl, inr}
-use mathlib.Core.Option.{Option, none, some}
-use Prim.Native.Nat.{ℕ, zero, suc, _≤_}
-use native.Mathlib.Omega.{arith}
-use lib.ListN.{length}
+use Rattle.laws.proofs.Library.{_≡_, refl, sym, ap, _∙_, subst, true, false, [], _∷_, _⊎_, inl, inr, Option, none, some, ℕ, zero, suc, _≤_, arith}
+use Rattle.laws.proofs.Library.{length}
 use Rattle.rules.specs.Strings.{Str, same, _▹_}
 use Rattle.rules.specs.Names.{Name}
 use Rattle.rules.specs.Stamps.{Stamp, pair, settled, reduceBy, reduce}

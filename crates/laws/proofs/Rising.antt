@@ -1,8 +1,5 @@
 -- Rising order: an order in which strings, none a prefix of another, have one listing. Assumes nothing.
-use mathlib.Core.Path.{_≡_, refl, sym, ap₂, _∙_, subst}
-use mathlib.Core.Bool.{Bool, true, false}
-use mathlib.Core.List.{List, [], _∷_}
-use mathlib.Core.Logic.{_⊎_, inl, inr, ⊎-elim}
+use Rattle.laws.proofs.Library.{_≡_, refl, sym, ap₂, _∙_, subst, Bool, true, false, List, [], _∷_, _⊎_, inl, inr, ⊎-elim}
 use Rattle.rules.specs.Strings.{Str, prefix, same, less}
 use Rattle.rules.specs.Names.{Name, all, rising, insert, sorted}
 use Rattle.laws.proofs.Tests.{no, clash, decide, and-left, and-right, and-both, In, all-each, each-all}

@@ -1,11 +1,6 @@
 -- One step of reduction: what `settle` leaves in a name, and what `pair` finds. Assumes nothing.
-use mathlib.Core.Path.{_≡_, refl, sym, ap, _∙_, subst}
-use mathlib.Core.Bool.{Bool, true, false, cond, not, _&&_, _||_}
-use mathlib.Core.List.{List, [], _∷_, dropLast}
-use mathlib.Core.Logic.{_⊎_, inl, inr, ⊎-elim}
-use mathlib.Core.Option.{Option, none, some}
-use Prim.Native.Nat.{ℕ}
-use native.Mathlib.Omega.{arith}
+use Rattle.laws.proofs.Library.{_≡_, refl, sym, ap, _∙_, subst, Bool, true, false, cond, not, _&&_, _||_, List, [], _∷_, dropLast, _⊎_, inl, inr}
+use Rattle.laws.proofs.Library.{⊎-elim, Option, none, some, ℕ, arith}
 use Rattle.rules.specs.Strings.{Str, same, _▹_}
 use Rattle.rules.specs.Names.{Name, keep, member, insert}
 use Rattle.rules.specs.Stamps.{pairAmong, pair, settle}

@@ -1,12 +1,7 @@
 -- Steps of reduction at a stamp whose id holds s0 and s1: each keeps a proper stamp proper and leaves one string less in the id,
 -- and two different steps commute. What was covered stays covered, except s0 and s1. Assumes nothing.
-use mathlib.Core.Path.{_≡_, refl, sym, ap, _∙_, subst}
-use mathlib.Core.Bool.{Bool, true, false}
-use mathlib.Core.List.{[], _∷_, dropLast}
-use mathlib.Core.Logic.{_⊎_, inl, inr, ⊎-elim, _↔_}
-use Prim.Native.Nat.{ℕ, suc, _+_, _≤_}
-use native.Mathlib.Omega.{arith}
-use lib.ListN.{length}
+use Rattle.laws.proofs.Library.{_≡_, refl, sym, ap, _∙_, subst, Bool, true, false, [], _∷_, dropLast, _⊎_, inl, inr, ⊎-elim, _↔_, ℕ, suc, _+_, _≤_}
+use Rattle.laws.proofs.Library.{arith, length}
 use Rattle.rules.specs.Strings.{Str, prefix, same, less, _▹_}
 use Rattle.rules.specs.Names.{Name, all, rising, covered, below, insert}
 use Rattle.rules.specs.Stamps.{Stamp, settle, settled}

@@ -1,15 +1,7 @@
 -- The stored shape: a record that has it tells its stamp, each lawful stamp has one, and none of them is all zeros.
 -- A word tells its string, and a record is the same as another when its numbers are. Assumes nothing.
-use mathlib.Core.Path.{_≡_, refl, sym, ap, ap₂, _∙_, subst}
-use mathlib.Core.Bool.{Bool, true, false, not}
-use mathlib.Core.List.{List, [], _∷_, map}
-use mathlib.Core.Logic.{inl, inr}
-use Prim.Native.Nat.{ℕ, _-_, _≤_}
-use native.Mathlib.Omega.{arith}
-use borrow.Author.Tests.{eqb-true, eq-eqb}
-use lib.Dec.{eqb}
-use lib.ListN.{length, replicate, length-map}
-use lib.Seq.{take-at}
+use Rattle.laws.proofs.Library.{_≡_, refl, sym, ap, ap₂, _∙_, subst, Bool, true, false, not, List, [], _∷_, map, inl, inr, ℕ, _-_, _≤_, arith}
+use Rattle.laws.proofs.Library.{eqb-true, eq-eqb, eqb, length, replicate, length-map, take-at}
 use Rattle.rules.specs.Limits.{Limits}
 use Rattle.rules.specs.Strings.{Str, wordOf, strOf}
 use Rattle.rules.specs.Names.{Name, isName}

@@ -1,11 +1,6 @@
 -- The sum of a weight over a name's strings. Two names that share all but a few strings differ by the weights of those few,
 -- since a rising list is told by its strings. Assumes nothing.
-use mathlib.Core.Path.{_≡_, refl, ap}
-use mathlib.Core.Bool.{Bool, true, false, cond, not}
-use mathlib.Core.List.{[], _∷_}
-use Prim.Native.Nat.{ℕ, _+_}
-use native.Mathlib.Omega.{arith}
-use lib.ListN.{length}
+use Rattle.laws.proofs.Library.{_≡_, refl, ap, Bool, true, false, cond, not, [], _∷_, ℕ, _+_, arith, length}
 use Rattle.rules.specs.Strings.{Str}
 use Rattle.rules.specs.Names.{Name, keep, member, rising}
 use Rattle.laws.proofs.Tests.{clash, not-true, not-is, is-not, In, keep-in, in-keep}

@@ -1,10 +1,6 @@
 -- Tests and what they say: `any`, `all`, `keep` and `member` as statements about the elements. Assumes nothing.
-use mathlib.Core.Path.{_≡_, refl, sym, _∙_, subst}
-use mathlib.Core.Bool.{Bool, true, false, cond, not, _&&_, _||_}
-use mathlib.Core.List.{List, [], _∷_, _++_}
-use mathlib.Core.Logic.{_⊎_, inl, inr, ⊎-elim}
-use Prim.Native.Nat.{ℕ}
-use native.Mathlib.Omega.{arith}
+use Rattle.laws.proofs.Library.{_≡_, refl, sym, _∙_, subst, Bool, true, false, cond, not, _&&_, _||_, List, [], _∷_, _++_, _⊎_, inl, inr, ⊎-elim, ℕ}
+use Rattle.laws.proofs.Library.{arith}
 use Rattle.rules.specs.Names.{any, all, keep}
 
 pub no : false ≡ true → ⊥

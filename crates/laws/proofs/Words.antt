@@ -1,19 +1,13 @@
 -- Words that hold strings: the leading zeros of an exclusive-or are the leading digits shared, words stand in the order of their strings,
 -- and a word tells its string. What is said of any width goes from the highest digit down, by induction. Assumes nothing.
-use mathlib.Core.Path.{_≡_, refl, sym, ap, ap₂, _∙_}
-use mathlib.Core.Bool.{Bool, true, false, cond, _&&_, Bool·beq}
-use mathlib.Core.List.{List, [], _∷_, _++_}
-use Prim.Native.Nat.{ℕ, zero, suc, _+_, _*_, _-_, _/_, _%_, _^_, _≤_, _<_, min}
-use native.Mathlib.Nat.{mod-lt, pow-suc, le-of-suc-le-suc, not-suc-le-zero, div-lt-iff-lt-mul, mod-eq-of-lt}
-use native.Mathlib.Nat.{mul-assoc, mul-comm, add-mul, mul-le-mul-right, mul-mod-left, le-mul-of-pos-right}
-use native.Mathlib.Omega.{arith}
-use borrow.Author.Tests.{ltb-true, ltb-false, lt-ltb, le-ltb, leb-true, eqb-true, eq-eqb}
+use Rattle.laws.proofs.Library.{_≡_, refl, sym, ap, ap₂, _∙_, Bool, true, false, cond, _&&_, Bool·beq, List, [], _∷_, _++_, ℕ, zero, suc, _+_, _*_}
+use Rattle.laws.proofs.Library.{_-_, _/_, _%_, _^_, _≤_, _<_, min, mod-lt, pow-suc, le-of-suc-le-suc, not-suc-le-zero, div-lt-iff-lt-mul}
+use Rattle.laws.proofs.Library.{mod-eq-of-lt, mul-assoc, mul-comm, add-mul, mul-le-mul-right, mul-mod-left, le-mul-of-pos-right, arith, ltb-true}
+use Rattle.laws.proofs.Library.{ltb-false, lt-ltb, le-ltb, leb-true, eqb-true, eq-eqb, eqb, leb, ltb, leb·zero, leb·suc-zero, leb·suc-suc, length}
+use Rattle.laws.proofs.Library.{take, replicate, length-append, length-replicate, split, pow-pos, pow-add, pow-mono, shr-shr, shl-shr, high, low}
+use Rattle.laws.proofs.Library.{mod-pow-add, take-at, length-take-le}
 use lib.Bits.{bitXor, xor-block, xor-lt}
 use lib.Count.{leadingZeros, leading-length, leading-unique}
-use lib.Dec.{eqb, leb, ltb, leb·zero, leb·suc-zero, leb·suc-suc}
-use lib.ListN.{length, take, replicate, length-append, length-replicate}
-use lib.Pow.{split, pow-pos, pow-add, pow-mono, shr-shr, shl-shr, high, low, mod-pow-add}
-use lib.Seq.{take-at, length-take-le}
 use Rattle.rules.specs.Strings.{Str, prefix, less, common, siblings, _▹_, digit, field, value, aligned, wordOf, strOf, isWord}
 use Rattle.laws.proofs.Tests.{no, clash, not-true, iff}
 use Rattle.laws.proofs.Rising.{less-apart}

@@ -1,15 +1,8 @@
 -- Bits filled up to whole bytes, and the bits of bytes, are inverse to each other: eight bits are the field of the number that they say,
 -- and fewer than eight zeros are the one filling. Assumes nothing.
-use mathlib.Core.Path.{_≡_, refl, sym, ap, ap₂, _∙_}
-use mathlib.Core.Bool.{Bool, true, false, not}
-use mathlib.Core.List.{List, [], _∷_, _++_}
-use Prim.Native.Nat.{ℕ, zero, suc, _+_, _*_, _-_, _^_, _≤_, _<_}
-use native.Mathlib.Omega.{arith}
-use borrow.Author.Tests.{ltb-true, lt-ltb}
-use lib.Dec.{ltb}
-use lib.Pow.{pow-mono}
-use lib.ListN.{length, take, drop, replicate, length-append, length-take, length-drop, length-replicate, take-append-drop}
-use lib.Seq.{take-at, drop-at, length-take-le}
+use Rattle.laws.proofs.Library.{_≡_, refl, sym, ap, ap₂, _∙_, Bool, true, false, not, List, [], _∷_, _++_, ℕ, zero, suc, _+_, _*_, _-_, _^_, _≤_, _<_}
+use Rattle.laws.proofs.Library.{arith, ltb-true, lt-ltb, ltb, pow-mono, length, take, drop, replicate, length-append, length-take, length-drop}
+use Rattle.laws.proofs.Library.{length-replicate, take-append-drop, take-at, drop-at, length-take-le}
 use Rattle.rules.specs.Limits.{byteBits, bytesFor}
 use Rattle.rules.specs.Strings.{field, value}
 use Rattle.rules.specs.Names.{any, all}

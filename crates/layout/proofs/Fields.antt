@@ -1,15 +1,8 @@
 -- A reader of bits, of a number or of a string gives back what was written in front of the rest, and what it gives was written there.
 -- Assumes nothing.
-use mathlib.Core.Path.{_≡_, refl, sym, ap, ap₂, _∙_}
-use mathlib.Core.Bool.{Bool, true, false, cond}
-use mathlib.Core.List.{List, _++_, append-assoc}
-use mathlib.Core.Option.{Option, none, some, Option·none-ne-some, Option·some-injective}
-use Prim.Native.Nat.{ℕ, _+_, _^_, _≤_, _<_}
-use native.Mathlib.Omega.{arith}
-use borrow.Author.Tests.{leb-true, le-leb}
-use lib.Dec.{leb}
-use lib.ListN.{length, take, drop, length-append, take-append-drop}
-use lib.Seq.{take-at, drop-at, length-take-le}
+use Rattle.laws.proofs.Library.{_≡_, refl, sym, ap, ap₂, _∙_, Bool, true, false, cond, List, _++_, append-assoc, Option, none, some, Option·none-ne-some}
+use Rattle.laws.proofs.Library.{Option·some-injective, ℕ, _+_, _^_, _≤_, _<_, arith, leb-true, le-leb, leb, length, take, drop, length-append}
+use Rattle.laws.proofs.Library.{take-append-drop, take-at, drop-at, length-take-le}
 use Rattle.rules.specs.Limits.{Limits}
 use Rattle.rules.specs.Strings.{Str, field, value}
 use Rattle.rules.specs.Packed.{stringBits, Taken, thenTake, takeBits, takeNumber, takeString}

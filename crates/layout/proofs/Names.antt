@@ -1,15 +1,7 @@
 -- Names and stamps go through the packed bits and back: the count says how many strings follow, and each says how long it is.
 -- What is read rises as a name does. Assumes nothing.
-use mathlib.Core.Path.{_≡_, refl, sym, ap, ap₂, _∙_, subst, subst₂}
-use mathlib.Core.Bool.{Bool, true, cond, _&&_}
-use mathlib.Core.List.{List, [], _∷_, _++_, append-assoc}
-use mathlib.Core.Logic.{inl, ⊎-elim}
-use mathlib.Core.Option.{none, some}
-use Prim.Native.Nat.{ℕ, zero, suc, _+_, _-_, _^_, _≤_, _<_}
-use native.Mathlib.Omega.{arith}
-use borrow.Author.Tests.{leb-true, le-leb}
-use lib.Dec.{leb, lit<, lit≤}
-use lib.ListN.{length}
+use Rattle.laws.proofs.Library.{_≡_, refl, sym, ap, ap₂, _∙_, subst, subst₂, Bool, true, cond, _&&_, List, [], _∷_, _++_, append-assoc, inl, ⊎-elim, none}
+use Rattle.laws.proofs.Library.{some, ℕ, zero, suc, _+_, _-_, _^_, _≤_, _<_, arith, leb-true, le-leb, leb, lit<, lit≤, length}
 use Rattle.rules.specs.Limits.{Limits, narrow}
 use Rattle.rules.specs.Strings.{Str, field, less}
 use Rattle.rules.specs.Names.{Name, all, rising, isName, below}

@@ -1,13 +1,7 @@
 -- Packed stamps and bytes that read are one to one. Writing then reading gives a lawful stamp back, and no other stamp has its bytes;
 -- reading then writing gives the bytes back, and no other bytes read as that stamp. Assumes nothing.
-use mathlib.Core.Path.{_≡_, refl, sym, ap, _∙_}
-use mathlib.Core.Bool.{Bool, true, false}
-use mathlib.Core.List.{List}
-use mathlib.Core.Option.{Option, none, some, Option·none-ne-some, Option·some-injective}
-use Prim.Native.Nat.{ℕ, _^_, _≤_}
-use lib.Dec.{leb, lit≤}
-use borrow.Author.Tests.{leb-true}
-use lib.ListN.{length}
+use Rattle.laws.proofs.Library.{_≡_, refl, sym, ap, _∙_, Bool, true, false, List, Option, none, some, Option·none-ne-some, Option·some-injective, ℕ, _^_}
+use Rattle.laws.proofs.Library.{_≤_, leb, lit≤, leb-true, length}
 use Rattle.rules.specs.Limits.{Limits, narrow}
 use Rattle.rules.specs.Names.{Name, isName}
 use Rattle.rules.specs.Stamps.{Stamp, lawful}

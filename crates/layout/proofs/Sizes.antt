@@ -1,12 +1,6 @@
 -- How many bytes a packed stamp takes: as many as hold its bits, and those of a lawful stamp lie between two names of one empty string
 -- and two full ones. Each digit more is one bit more, so both branches of a fork take the same number.
-use mathlib.Core.Path.{_≡_, sym, ap, _∙_}
-use mathlib.Core.Bool.{Bool, true, false}
-use mathlib.Core.List.{[], _∷_}
-use Prim.Native.Nat.{ℕ, _+_, _*_, _-_, _≤_}
-use native.Mathlib.Nat.{mul-le-mul-right}
-use native.Mathlib.Omega.{arith}
-use lib.ListN.{length, length-append}
+use Rattle.laws.proofs.Library.{_≡_, sym, ap, _∙_, Bool, true, false, [], _∷_, ℕ, _+_, _*_, _-_, _≤_, mul-le-mul-right, arith, length, length-append}
 use Rattle.rules.specs.Limits.{Limits, narrow, bytesFor, shortest, longest}
 use Rattle.rules.specs.Strings.{Str, _▹_, field}
 use Rattle.rules.specs.Names.{Name, isName}

@@ -1,15 +1,8 @@
 -- However an input is cut into pieces, the commands gathered are those of its lines. One piece after another is one piece, by induction
 -- over the first; and the unfinished line keeps the first eight bytes, which decide what it says. Assumes nothing.
-use mathlib.Core.Path.{_≡_, refl, sym, ap, _∙_}
-use mathlib.Core.Bool.{Bool, true, false, cond}
-use mathlib.Core.List.{List, [], _∷_, _++_, append-assoc, append-nil}
-use Prim.Native.Nat.{ℕ, suc, _+_, _≤_, min}
-use native.Mathlib.Omega.{arith}
-use native.Mathlib.Numerals.{add-one}
-use borrow.Author.Tests.{ltb-true, ltb-false, eq-eqb, ne-eqb}
-use lib.Dec.{eqb, ltb}
-use lib.ListN.{length, take, set, length-append, length-set}
-use lib.Seq.{take-all, take-suc-set, take-append-le}
+use Rattle.laws.proofs.Library.{_≡_, refl, sym, ap, _∙_, Bool, true, false, cond, List, [], _∷_, _++_, append-assoc, append-nil, ℕ, suc, _+_, _≤_, min}
+use Rattle.laws.proofs.Library.{arith, add-one, ltb-true, ltb-false, eq-eqb, ne-eqb, eqb, ltb, length, take, set, length-append, length-set, take-all}
+use Rattle.laws.proofs.Library.{take-suc-set, take-append-le}
 use Rattle.rules.specs.Traces.{Text, readLine, readLines, linesOf, dropEmptyLast, splitAt, ontoFirst}
 use Rattle.lines.specs.declared.Unfinished.{Unfinished}
 use Rattle.lines.specs.declared.Command.{Command}

@@ -1,16 +1,8 @@
 -- `readLine` of a letter, a space and a rest is told by the first space of the rest; and no line of eight bytes or more reads, as a slot
 -- has at most two bytes. Assumes nothing.
-use mathlib.Core.Path.{_≡_, refl, sym, ap, _∙_}
-use mathlib.Core.Bool.{Bool, true, false, cond, _&&_, _||_}
-use mathlib.Core.List.{List, [], _∷_}
-use mathlib.Core.Option.{Option, none, some}
-use Prim.Native.Nat.{ℕ, suc, _+_, _-_, _≤_, _<_}
-use native.Mathlib.Numerals.{add-one}
-use native.Mathlib.Omega.{arith}
-use borrow.Author.Tests.{ltb-true, ltb-false, leb-true, leb-false, eqb-true, lt-ltb, ne-eqb}
-use lib.Dec.{eqb, leb, ltb}
-use lib.ListN.{length, getD, take, drop, length-take, length-drop}
-use lib.Seq.{take-all}
+use Rattle.laws.proofs.Library.{_≡_, refl, sym, ap, _∙_, Bool, true, false, cond, _&&_, _||_, List, [], _∷_, Option, none, some, ℕ, suc, _+_, _-_, _≤_, _<_}
+use Rattle.laws.proofs.Library.{add-one, arith, ltb-true, ltb-false, leb-true, leb-false, eqb-true, lt-ltb, ne-eqb, eqb, leb, ltb, length, getD, take, drop}
+use Rattle.laws.proofs.Library.{length-take, length-drop, take-all}
 use Rattle.rules.specs.Traces.{Text, Line, unreadable, update, fork, join, compare, spare}
 use Rattle.rules.specs.Traces.{splitAt, ontoFirst, readLine, byParts, slotOf, oneSlot, twoSlots, withOne, withTwo}
 use Rattle.lines.specs.Commands.{commandOf, unread}

@@ -1,13 +1,7 @@
 -- What is printed for the commands of an input's lines is what the rules say the tool prints, however the input is cut into pieces.
 -- A command says its line again, a table's slots are below 100 so that two digits show them, and no line changes a table's size. Assumes nothing.
-use mathlib.Core.Path.{_≡_, refl, sym, ap, ap₂, _∙_}
-use mathlib.Core.Bool.{Bool, true, false, cond, _||_}
-use mathlib.Core.List.{List, [], _∷_, _++_, append-assoc}
-use Prim.Native.Nat.{ℕ, suc, _≤_, _<_}
-use native.Mathlib.Omega.{arith}
-use borrow.Author.Tests.{leb-false, ltb-true, ltb-false, eqb-false}
-use lib.Dec.{eqb, leb, ltb}
-use lib.ListN.{length, set, replicate, length-set, length-replicate}
+use Rattle.laws.proofs.Library.{_≡_, refl, sym, ap, ap₂, _∙_, Bool, true, false, cond, _||_, List, [], _∷_, _++_, append-assoc, ℕ, suc, _≤_, _<_, arith}
+use Rattle.laws.proofs.Library.{leb-false, ltb-true, ltb-false, eqb-false, eqb, leb, ltb, length, set, replicate, length-set, length-replicate}
 use Rattle.rules.specs.Limits.{Limits, records}
 use Rattle.rules.specs.Stamps
 use Rattle.rules.specs.Stamps.{start}

@@ -1,13 +1,6 @@
 -- The slot that some bytes name: none where there are more than two or a space among them, and never above 99. Assumes nothing.
-use mathlib.Core.Path.{_≡_, refl}
-use mathlib.Core.Bool.{Bool, true, false, cond, not, _&&_}
-use mathlib.Core.List.{[], _∷_}
-use mathlib.Core.Option.{none, some}
-use Prim.Native.Nat.{ℕ, suc, _+_, _*_, _-_, _≤_, _<_}
-use native.Mathlib.Omega.{arith}
-use borrow.Author.Tests.{leb-true, eqb-true, lt-ltb, ne-eqb}
-use lib.Dec.{eqb, leb}
-use lib.ListN.{length, getD}
+use Rattle.laws.proofs.Library.{_≡_, refl, Bool, true, false, cond, not, _&&_, [], _∷_, none, some, ℕ, suc, _+_, _*_, _-_, _≤_, _<_, arith, leb-true}
+use Rattle.laws.proofs.Library.{eqb-true, lt-ltb, ne-eqb, eqb, leb, length, getD}
 use Rattle.rules.specs.Traces.{Text, slotOf, isDigit}
 use Rattle.laws.proofs.Tests.{and-left, and-right}
 use Rattle.lines.specs.Inner.{orNone, digitOf, twoDigits, firstAt}

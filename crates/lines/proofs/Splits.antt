@@ -1,15 +1,7 @@
 -- The parts of a text between the bytes c: the first ends where the first c stands, and together they are as long as the text, less the c's.
 -- Assumes nothing.
-use mathlib.Core.Path.{_≡_, refl}
-use mathlib.Core.Bool.{Bool, true, false, cond}
-use mathlib.Core.List.{List, [], _∷_}
-use Prim.Native.Nat.{ℕ, suc, _+_, _≤_, _<_}
-use native.Mathlib.Numerals.{add-one}
-use native.Mathlib.Omega.{arith}
-use borrow.Author.Tests.{eq-eqb, ne-eqb}
-use lib.Dec.{eqb}
-use lib.ListN.{length, getD, take, drop, drop-of-length-le}
-use lib.Seq.{drop-cons}
+use Rattle.laws.proofs.Library.{_≡_, refl, Bool, true, false, cond, List, [], _∷_, ℕ, suc, _+_, _≤_, _<_, add-one, arith, eq-eqb, ne-eqb, eqb, length, getD}
+use Rattle.laws.proofs.Library.{take, drop, drop-of-length-le, drop-cons}
 use Rattle.rules.specs.Traces.{Text, splitAt, ontoFirst}
 use Rattle.lines.specs.Inner.{firstAt}
 

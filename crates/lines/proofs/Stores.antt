@@ -1,12 +1,6 @@
 -- Stores one after the other are one store of what was stored, and a store at the front is that text over the buffer. Assumes nothing.
-use mathlib.Core.Path.{_≡_, sym, ap₂, _∙_}
-use mathlib.Core.List.{List, [], _∷_, _++_}
-use Prim.Native.Nat.{ℕ, suc, _+_, _≤_, _<_}
-use native.Mathlib.Nat.{zero-add, add-zero, add-suc, suc-add}
-use native.Mathlib.Numerals.{add-one}
-use native.Mathlib.Omega.{arith}
-use lib.ListN.{length, drop, getD, set, length-append}
-use lib.Seq.{sets, sets-eq, drop-cons}
+use Rattle.laws.proofs.Library.{_≡_, sym, ap₂, _∙_, List, [], _∷_, _++_, ℕ, suc, _+_, _≤_, _<_, zero-add, add-zero, add-suc, suc-add, add-one, arith}
+use Rattle.laws.proofs.Library.{length, drop, getD, set, length-append, sets, sets-eq, drop-cons}
 use Rattle.rules.specs.Traces.{Text}
 use Rattle.rules.specs.Packed.{over}
 use Rattle.lines.specs.Inner.{PutAt}

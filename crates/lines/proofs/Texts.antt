@@ -1,13 +1,6 @@
 -- What an answer's number prints is what the rules print for the answer. Assumes nothing.
-use mathlib.Core.Path.{_≡_, refl}
-use mathlib.Core.Bool.{Bool, true, false, cond, _||_}
-use mathlib.Core.List.{[], _∷_, _++_}
-use Prim.Native.Nat.{ℕ, _+_, _/_, _%_, _≤_, _<_}
-use native.Mathlib.Nat.{mod-eq-of-lt}
-use native.Mathlib.Omega.{arith}
-use borrow.Author.Tests.{lt-ltb, le-ltb, ne-eqb}
-use lib.Dec.{eqb, ltb}
-use lib.ListN.{length}
+use Rattle.laws.proofs.Library.{_≡_, refl, Bool, true, false, cond, _||_, [], _∷_, _++_, ℕ, _+_, _/_, _%_, _≤_, _<_, mod-eq-of-lt, arith, lt-ltb, le-ltb}
+use Rattle.laws.proofs.Library.{ne-eqb, eqb, ltb, length}
 use Rattle.rules.specs.Refusals.{number}
 use Rattle.rules.specs.Tables.{slotNumber, sparedNumber}
 use Rattle.rules.specs.Packed.{comparedNumber}

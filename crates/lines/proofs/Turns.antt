@@ -1,16 +1,8 @@
 -- What the loops of `gather` and `print` come to from a turn on: a turn leaves it as it was, at the end it is what stands there, and at the
 -- start it is what the contract says. Assumes nothing.
-use mathlib.Core.Path.{_≡_, refl, ap}
-use mathlib.Core.Bool.{Bool, true, false, cond}
-use mathlib.Core.List.{List, [], _∷_, _++_}
-use Prim.Native.Nat.{ℕ, zero, suc, _+_, _*_, _-_, _/_, _≤_, _<_}
-use native.Mathlib.Nat.{add-zero, zero-add, add-assoc}
-use native.Mathlib.Numerals.{add-one}
-use native.Mathlib.Omega.{arith}
-use borrow.Author.Tests.{eq-eqb, ne-eqb, le-leb, lt-leb}
-use lib.Dec.{eqb}
-use lib.ListN.{length, getD, drop, length-append, drop-of-length-le}
-use lib.Seq.{sets, drop-cons, drop-drop, getD-drop}
+use Rattle.laws.proofs.Library.{_≡_, refl, ap, Bool, true, false, cond, List, [], _∷_, _++_, ℕ, zero, suc, _+_, _*_, _-_, _/_, _≤_, _<_, add-zero, zero-add}
+use Rattle.laws.proofs.Library.{add-assoc, add-one, arith, eq-eqb, ne-eqb, le-leb, lt-leb, eqb, length, getD, drop, length-append, drop-of-length-le, sets}
+use Rattle.laws.proofs.Library.{drop-cons, drop-drop, getD-drop}
 use Rattle.rules.specs.Traces.{Text}
 use Rattle.rules.specs.Packed.{over}
 use Rattle.lines.specs.declared.Unfinished.{Unfinished}

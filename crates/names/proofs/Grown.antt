@@ -1,17 +1,7 @@
 -- The words of a name with a digit appended to each string: word by word, they are the words of the grown strings, and zeros behind them stay.
 -- Assumes nothing.
-use mathlib.Core.Path.{_≡_, refl, sym, ap, ap₂, _∙_}
-use mathlib.Core.Bool.{Bool, true, false}
-use mathlib.Core.List.{List, [], _∷_, _++_, map}
-use mathlib.Core.Logic.{inl, inr}
-use Prim.Native.Nat.{ℕ, zero, suc, _+_, _*_, _-_, _%_, _^_, _≤_, _<_}
-use native.Mathlib.Nat.{sub-zero, mod-eq-of-lt}
-use native.Mathlib.Numerals.{add-one}
-use native.Mathlib.Omega.{arith}
-use lib.Dec.{eqb}
-use lib.ListN.{length, getD, take, set, replicate, length-map}
-use lib.Seq.{take-all}
-use borrow.Author.Tests.{eqb-false}
+use Rattle.laws.proofs.Library.{_≡_, refl, sym, ap, ap₂, _∙_, Bool, true, false, List, [], _∷_, _++_, map, inl, inr, ℕ, zero, suc, _+_, _*_, _-_, _%_, _^_}
+use Rattle.laws.proofs.Library.{_≤_, _<_, sub-zero, mod-eq-of-lt, add-one, arith, eqb, length, getD, take, set, replicate, length-map, take-all, eqb-false}
 use Rattle.rules.specs.Limits.{Limits}
 use Rattle.rules.specs.Strings.{Str, _▹_, digit, wordOf}
 use Rattle.rules.specs.Names.{Name, any}

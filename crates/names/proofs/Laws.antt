@@ -1,12 +1,6 @@
 -- One element more, as a loop wants it: `all` of a list whose head is known, and the strings of a record from an index on. Assumes nothing.
-use mathlib.Core.Path.{_≡_, refl, ap, _∙_}
-use mathlib.Core.Bool.{Bool, true, false, _&&_}
-use mathlib.Core.List.{List, [], _∷_, map}
-use Prim.Native.Nat.{ℕ, zero, suc, _+_, _≤_, _<_, min}
-use native.Mathlib.Omega.{arith}
-use native.Mathlib.Numerals.{add-one}
-use lib.ListN.{length, getD, take, drop, length-take, length-map, drop-of-length-le}
-use lib.Seq.{drop-cons, getD-take}
+use Rattle.laws.proofs.Library.{_≡_, refl, ap, _∙_, Bool, true, false, _&&_, List, [], _∷_, map, ℕ, zero, suc, _+_, _≤_, _<_, min, arith, add-one, length}
+use Rattle.laws.proofs.Library.{getD, take, drop, length-take, length-map, drop-of-length-le, drop-cons, getD-take}
 use Rattle.rules.specs.Strings.{strOf}
 use Rattle.rules.specs.Names.{all}
 use Rattle.rules.specs.Stored.{strsIn}

@@ -1,14 +1,8 @@
 -- The stored shape of a name, over any limits: a record has it exactly when it passes tests of its words, one shape tells one name and each name has one.
 -- The first words are those of their strings, the others are 0, and strings rise when each comes before the next. Assumes nothing.
-use mathlib.Core.Path.{_≡_, refl, sym, ap, ap₂, _∙_, subst}
-use mathlib.Core.Bool.{Bool, true, false, _&&_, and-false, and-assoc}
-use mathlib.Core.List.{List, [], _∷_, _++_, map}
-use mathlib.Core.Logic.{inl, ⊎-elim}
-use Prim.Native.Nat.{ℕ, zero, suc, _-_, _≤_, _<_}
-use native.Mathlib.Omega.{arith}
-use borrow.Author.Tests.{leb-true, leb-false, lt-leb, eq-eqb, ne-eqb}
-use lib.Dec.{eqb, leb, eqb·zero-suc, eqb·suc-zero}
-use lib.ListN.{length, replicate, length-append, length-map, length-drop, length-replicate, take-append-drop}
+use Rattle.laws.proofs.Library.{_≡_, refl, sym, ap, ap₂, _∙_, subst, Bool, true, false, _&&_, and-false, and-assoc, List, [], _∷_, _++_, map, inl, ⊎-elim}
+use Rattle.laws.proofs.Library.{ℕ, zero, suc, _-_, _≤_, _<_, arith, leb-true, leb-false, lt-leb, eq-eqb, ne-eqb, eqb, leb, eqb·zero-suc, eqb·suc-zero}
+use Rattle.laws.proofs.Library.{length, replicate, length-append, length-map, length-drop, length-replicate, take-append-drop}
 use Rattle.rules.specs.Limits.{Limits}
 use Rattle.rules.specs.Strings.{Str, less, wordOf, strOf, isWord}
 use Rattle.rules.specs.Names.{Name, all, rising, isName}

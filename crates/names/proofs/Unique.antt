@@ -1,8 +1,6 @@
 -- Each public contract is an equation for the result and for what was lent, so it leaves one answer. Assumes nothing.
 -- `counted` gives back a part of a slice: the contract fixes its place and its words, not the name that the checker gives it.
-use mathlib.Core.Path.{refl}
-use mathlib.Core.List.{List}
-use Prim.Native.Nat.{ℕ}
+use Rattle.laws.proofs.Library.{refl, List, ℕ}
 use Rattle.rules.specs.Contracts.{OneAnswer, OneSeen}
 use Rattle.laws.proofs.Contracts.{agree, both-say}
 use Rattle.names.proofs.is_name_in

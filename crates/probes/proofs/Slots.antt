@@ -1,5 +1,5 @@
 -- The record as a plain type. Assumes nothing.
-use mathlib.Core.Path.{refl}
+use Rattle.laws.proofs.Library.{refl}
 use Rattle.rules.proofs.Record as T
 use Rattle.rules.proofs.Record.Laws as T′
 use Rattle.frames.proofs.Rows.{Plainly, struct}

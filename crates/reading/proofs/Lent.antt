@@ -1,12 +1,6 @@
 -- A stamp read into words that were zeros: beside their counts they are the record that is read by value. Assumes nothing.
-use mathlib.Core.Path.{_≡_, refl, sym, ap, _∙_}
-use mathlib.Core.Bool.{not}
-use mathlib.Core.List.{List, [], _∷_, _++_, map}
-use mathlib.Core.Option.{Option, none, some}
-use Prim.Native.Nat.{ℕ, zero, suc, _-_}
-use native.Mathlib.Omega.{arith}
-use lib.ListN.{length, drop, replicate, length-map}
-use lib.Seq.{take-at}
+use Rattle.laws.proofs.Library.{_≡_, refl, sym, ap, _∙_, not, List, [], _∷_, _++_, map, Option, none, some, ℕ, zero, suc, _-_, arith, length, drop}
+use Rattle.laws.proofs.Library.{replicate, length-map, take-at}
 use Rattle.rules.specs.Limits.{narrow}
 use Rattle.rules.specs.Strings.{wordOf}
 use Rattle.rules.specs.Names.{Name}

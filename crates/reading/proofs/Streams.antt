@@ -1,14 +1,8 @@
 -- What the readers cite: bytes as bits and as numbers, bits moved up in a word, and parts of a list. Assumes nothing.
-use mathlib.Core.Path.{_≡_, sym, ap, ap₂, _∙_}
-use mathlib.Core.Bool.{Bool}
-use mathlib.Core.List.{List, [], _∷_, _++_, append-assoc}
-use Prim.Native.Nat.{ℕ, zero, suc, _+_, _*_, _-_, _/_, _%_, _^_, _≤_, _<_}
-use native.Mathlib.Nat.{mod-eq-of-lt, add-zero, mul-mod-left}
-use native.Mathlib.Numerals.{add-one}
-use native.Mathlib.Omega.{arith}
-use lib.ListN.{length, getD, take, drop, set, length-drop}
-use lib.Pow.{pow-pos, shl-shr, shr-lt, mod-pow-add}
-use lib.Seq.{length-take-le, take-suc, drop-cons, set-at, take-at, drop-at, take-append-le, take-take, drop-drop, take-add, drop-nil, take-nil}
+use Rattle.laws.proofs.Library.{_≡_, sym, ap, ap₂, _∙_, Bool, List, [], _∷_, _++_, append-assoc, ℕ, zero, suc, _+_, _*_, _-_, _/_, _%_, _^_, _≤_, _<_}
+use Rattle.laws.proofs.Library.{mod-eq-of-lt, add-zero, mul-mod-left, add-one, arith, length, getD, take, drop, set, length-drop, pow-pos, shl-shr, shr-lt}
+use Rattle.laws.proofs.Library.{mod-pow-add, length-take-le, take-suc, drop-cons, set-at, take-at, drop-at, take-append-le, take-take, drop-drop, take-add}
+use Rattle.laws.proofs.Library.{drop-nil, take-nil}
 use Rattle.rules.specs.Strings.{field, valueFrom, value}
 use Rattle.rules.specs.Packed.{bitsOf}
 use Rattle.laws.proofs.Bits.{field-length, value-append, value-shift, value-field, value-field-exact, field-value}

@@ -1,8 +1,5 @@
 -- An answer is a small number: a refusal's is 1,000 and two digits. So a pass that holds one beside `found` stays in its word. Assumes nothing.
-use mathlib.Core.Bool.{Bool, true, false, cond}
-use mathlib.Core.List.{[]}
-use Prim.Native.Nat.{_≤_}
-use lib.Dec.{lit≤}
+use Rattle.laws.proofs.Library.{Bool, true, false, cond, [], _≤_, lit≤}
 use Rattle.rules.specs.Limits.{narrow}
 use Rattle.rules.specs.Refusals.{first}
 use Rattle.rules.specs.Stored.{absent, unlawful, isStored}

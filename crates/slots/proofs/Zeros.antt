@@ -1,11 +1,6 @@
 -- A record is absent where both counts are 0, and every word: what is asked of numbers one by one is asked of the record. Assumes nothing.
-use mathlib.Core.Path.{_≡_, refl, sym, ap, ap₂, _∙_}
-use mathlib.Core.Bool.{Bool, true, false, _&&_, and-false}
-use mathlib.Core.List.{List, [], _∷_, map}
-use Prim.Native.Nat.{ℕ}
-use borrow.Author.Tests.{eqb-true, eqb-false, eq-eqb, ne-eqb}
-use lib.Dec.{eqb}
-use lib.ListN.{length, replicate, length-map}
+use Rattle.laws.proofs.Library.{_≡_, refl, sym, ap, ap₂, _∙_, Bool, true, false, _&&_, and-false, List, [], _∷_, map, ℕ, eqb-true, eqb-false, eq-eqb}
+use Rattle.laws.proofs.Library.{ne-eqb, eqb, length, replicate, length-map}
 use Rattle.rules.specs.Limits.{narrow}
 use Rattle.rules.specs.Names.{all}
 use Rattle.rules.specs.Stored.{sameNumbers, sameWords, sameRecord, wordsOf, stored, blank, absent}

@@ -1,12 +1,6 @@
 -- A stored record in the parts that the code asks for, one after the other, and what the walks tell of the words that a stored name counts.
 -- Assumes nothing.
-use mathlib.Core.Path.{_≡_, refl, sym, ap, _∙_}
-use mathlib.Core.Bool.{Bool, true, false, not, _&&_}
-use mathlib.Core.List.{List, []}
-use Prim.Native.Nat.{ℕ, zero, _≤_}
-use native.Mathlib.Omega.{arith}
-use lib.Dec.{eqb}
-use lib.ListN.{length, take}
+use Rattle.laws.proofs.Library.{_≡_, refl, sym, ap, _∙_, Bool, true, false, not, _&&_, List, [], ℕ, zero, _≤_, arith, eqb, length, take}
 use Rattle.rules.specs.Limits.{Limits, narrow}
 use Rattle.rules.specs.Names.{any, rising, isName, below}
 use Rattle.rules.specs.Stamps.{pair, isNone, lawful, append, update, fork}

@@ -1,9 +1,6 @@
 -- The bits behind some digits, as code makes them, and a number without them. Assumes nothing.
-use mathlib.Core.Path.{_≡_, ap, _∙_}
-use Prim.Native.Nat.{ℕ, _+_, _*_, _-_, _/_, _^_, _≤_}
-use native.Mathlib.Omega.{arith}
+use Rattle.laws.proofs.Library.{_≡_, ap, _∙_, ℕ, _+_, _*_, _-_, _/_, _^_, _≤_, arith, split, high, ones-lt, ones-split}
 use lib.Bits.{bitAnd, and-mask}
-use lib.Pow.{split, high, ones-lt, ones-split}
 
 -- all the bits behind n digits
 pub ones-are : (n : ℕ) → n ≤ 64 → (2 ^ 64 - 1) / 2 ^ n ≡ 2 ^ (64 - n) - 1

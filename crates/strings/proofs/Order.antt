@@ -1,15 +1,7 @@
 -- Words of strings stand as their strings do: a prefix has no greater word, and of two that are apart the one that comes before has the lesser.
 -- Both are read off a word's value: the digits moved to the top, and the length. Assumes nothing.
-use mathlib.Core.Path.{_≡_, refl, sym, ap, ap₂, _∙_, subst}
-use mathlib.Core.Bool.{Bool, true, false}
-use mathlib.Core.List.{[], _∷_, _++_}
-use Prim.Native.Nat.{ℕ, _+_, _*_, _-_, _^_, _≤_, _<_}
-use native.Mathlib.Nat.{mul-assoc, add-mul}
-use native.Mathlib.Omega.{arith}
-use borrow.Author.Tests.{leb-true, eqb-true, ltb-true, ltb-false}
-use lib.Dec.{eqb, leb, ltb}
-use lib.ListN.{length, length-append}
-use lib.Pow.{pow-add}
+use Rattle.laws.proofs.Library.{_≡_, refl, sym, ap, ap₂, _∙_, subst, Bool, true, false, [], _∷_, _++_, ℕ, _+_, _*_, _-_, _^_, _≤_, _<_, mul-assoc, add-mul}
+use Rattle.laws.proofs.Library.{arith, leb-true, eqb-true, ltb-true, ltb-false, eqb, leb, ltb, length, length-append, pow-add}
 use Rattle.rules.specs.Strings.{Str, prefix, less, value, wordOf, strOf, isWord}
 use Rattle.laws.proofs.Tests.{no, clash, not-true, and-left, and-right}
 use Rattle.laws.proofs.Prefix.{prefix-refl}

@@ -1,6 +1,5 @@
 -- What a test of a number says. Assumes nothing.
-use mathlib.Core.Path.{_≡_, refl}
-use mathlib.Core.Bool.{Bool, true, false, not}
+use Rattle.laws.proofs.Library.{_≡_, refl, Bool, true, false, not}
 use lib.Dec.{T as Holds}
 
 pub holds-true : (y : Bool) → Holds y → y ≡ true

@@ -1,13 +1,7 @@
 -- A table filled slot by slot from the front is the fresh table. Assumes nothing.
-use mathlib.Core.Path.{_≡_, refl, sym, _∙_}
-use mathlib.Core.Bool.{Bool, true, false, cond}
-use Prim.Native.Nat.{ℕ, zero, suc, _+_, _≤_, _<_}
-use native.Mathlib.Numerals.{add-one}
-use native.Mathlib.Omega.{arith}
-use borrow.Author.Tests.{eqb-true, eqb-false, lt-leb}
-use lib.Dec.{eqb, leb, ltb}
-use lib.ListN.{length, getD, set, replicate, length-set, length-replicate, getD-replicate}
-use lib.Seq.{ext-getD, getD-set-same, getD-set-other}
+use Rattle.laws.proofs.Library.{_≡_, refl, sym, _∙_, Bool, true, false, cond, ℕ, zero, suc, _+_, _≤_, _<_, add-one, arith, eqb-true, eqb-false, lt-leb, eqb}
+use Rattle.laws.proofs.Library.{leb, ltb, length, getD, set, replicate, length-set, length-replicate, getD-replicate, ext-getD, getD-set-same}
+use Rattle.laws.proofs.Library.{getD-set-other}
 use Rattle.rules.specs.Limits.{narrow, records}
 use Rattle.rules.specs.Refusals.{first}
 use Rattle.rules.specs.Stamps.{start}

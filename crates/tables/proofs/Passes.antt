@@ -1,14 +1,7 @@
 -- What a pass over the table answers: the lowest absent slot, and whether slot a's copy may go. Assumes nothing.
-use mathlib.Core.Path.{_≡_, refl, sym, ap, _∙_}
-use mathlib.Core.Bool.{Bool, true, false, cond, _||_}
-use mathlib.Core.List.{[], _∷_}
-use Prim.Native.Nat.{ℕ, zero, suc, _+_, _≤_, _<_}
-use native.Mathlib.Numerals.{add-one}
-use native.Mathlib.Omega.{arith}
-use borrow.Author.Tests.{lt-ltb, le-ltb, ltb-true, ltb-false, eqb-true, eqb-false, eq-eqb, ne-eqb}
-use lib.Dec.{eqb, ltb}
-use lib.ListN.{length, getD, drop, drop-of-length-le}
-use lib.Seq.{drop-cons}
+use Rattle.laws.proofs.Library.{_≡_, refl, sym, ap, _∙_, Bool, true, false, cond, _||_, [], _∷_, ℕ, zero, suc, _+_, _≤_, _<_, add-one, arith, lt-ltb}
+use Rattle.laws.proofs.Library.{le-ltb, ltb-true, ltb-false, eqb-true, eqb-false, eq-eqb, ne-eqb, eqb, ltb, length, getD, drop, drop-of-length-le}
+use Rattle.laws.proofs.Library.{drop-cons}
 use Rattle.laws.proofs.Tests.{clash}
 use Rattle.rules.specs.Limits.{narrow, records}
 use Rattle.rules.specs.Refusals.{first, overlap, unseen}

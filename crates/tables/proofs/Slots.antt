@@ -1,7 +1,5 @@
 -- The plain types of the table's walks, and the gate. Assumes nothing.
-use mathlib.Core.Path.{refl}
-use mathlib.Core.List.{[], _∷_}
-use Prim.Native.Nat.{ℕ}
+use Rattle.laws.proofs.Library.{refl, [], _∷_, ℕ}
 use Rattle.rules.proofs.Record as T
 use Rattle.rules.proofs.Record.Laws as T′
 use Rattle.slots.specs.Gates.{gateCode}

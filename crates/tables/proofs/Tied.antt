@@ -1,13 +1,6 @@
 -- A gate that asks about numbers, and a rule that keeps the records on a refusal, do what the rules of the table say. Assumes nothing.
-use mathlib.Core.Path.{_≡_, refl, sym, ap, subst, _∙_}
-use mathlib.Core.Bool.{Bool, true, false, cond, _||_}
-use mathlib.Core.List.{[], _∷_}
-use Prim.Native.Nat.{ℕ, _≤_, _<_}
-use native.Mathlib.Omega.{arith}
-use borrow.Author.Tests.{eq-eqb, eqb-true, eqb-false, leb-true, leb-false, ltb-false, not-false}
-use lib.Dec.{eqb, leb, ltb, lit≤}
-use lib.ListN.{length, set}
-use lib.Seq.{set-getD}
+use Rattle.laws.proofs.Library.{_≡_, refl, sym, ap, subst, _∙_, Bool, true, false, cond, _||_, [], _∷_, ℕ, _≤_, _<_, arith, eq-eqb, eqb-true, eqb-false}
+use Rattle.laws.proofs.Library.{leb-true, leb-false, ltb-false, not-false, eqb, leb, ltb, lit≤, length, set, set-getD}
 use Rattle.laws.proofs.Below.{below-refl}
 use Rattle.laws.proofs.Tests.{clash}
 use Rattle.rules.specs.Limits.{narrow, records}

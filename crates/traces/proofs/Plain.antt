@@ -1,5 +1,5 @@
 -- The plain types of the walks over a table by value. Assumes nothing.
-use mathlib.Core.Path.{refl}
+use Rattle.laws.proofs.Library.{refl}
 use Rattle.frames.proofs.Rows.{Plainly, struct}
 use Rattle.frames.proofs.Arrays.{array}
 use Rattle.tables.proofs.Slots.{item}

@@ -1,8 +1,5 @@
 -- As many answers stand in a buffer behind a run as there were commands. Assumes nothing.
-use mathlib.Core.Path.{_≡_, refl, ap}
-use mathlib.Core.List.{List, [], _∷_}
-use Prim.Native.Nat.{ℕ, suc}
-use lib.ListN.{length}
+use Rattle.laws.proofs.Library.{_≡_, refl, ap, List, [], _∷_, ℕ, suc, length}
 use Rattle.rules.specs.Limits.{Limits}
 use Rattle.rules.specs.Tables.{Table}
 use Rattle.rules.specs.Traces.{lineTable}

@@ -1,8 +1,5 @@
 -- Reading and then changing is serving: at most one of the two knows the letter.
-use mathlib.Core.Path.{_≡_, refl}
-use mathlib.Core.Bool.{Bool, true, false, cond}
-use Prim.Native.Nat.{ℕ, _+_}
-use lib.Dec.{eqb}
+use Rattle.laws.proofs.Library.{_≡_, refl, Bool, true, false, cond, ℕ, _+_, eqb}
 use Rattle.rules.specs.Limits.{narrow}
 use Rattle.rules.specs.Packed.{comparedNumber}
 use Rattle.rules.specs.Refusals.{number}

@@ -1,11 +1,6 @@
 -- What the loop over a buffer's commands comes to from a turn on: a turn leaves it as it was, at the end it is what stands there, and at the start
 -- it is what the contract says. Assumes nothing.
-use mathlib.Core.Path.{_≡_, refl, ap, _∙_}
-use mathlib.Core.List.{List, [], _∷_}
-use Prim.Native.Nat.{ℕ, zero, suc, _+_, _*_, _-_, _/_, _≤_, _<_}
-use native.Mathlib.Omega.{arith}
-use borrow.Author.Tests.{lt-ltb}
-use lib.ListN.{length, getD, set}
+use Rattle.laws.proofs.Library.{_≡_, refl, ap, _∙_, List, [], _∷_, ℕ, zero, suc, _+_, _*_, _-_, _/_, _≤_, _<_, arith, lt-ltb, length, getD, set}
 use Rattle.rules.specs.Limits.{narrow}
 use Rattle.rules.specs.Packed.{over}
 use Rattle.rules.specs.Tables.{Table}

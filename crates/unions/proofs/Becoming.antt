@@ -1,8 +1,6 @@
 -- What reduction makes of the update, string by string: a string becomes the one of the reduced id that is a prefix of it, or stays where there is none.
 -- Every step keeps this, since what u holds is covered by i. Assumes nothing.
-use mathlib.Core.Path.{_≡_, refl, sym, subst, _∙_}
-use mathlib.Core.Bool.{Bool, true, false}
-use mathlib.Core.Logic.{_⊎_, inl, inr, ⊎-elim}
+use Rattle.laws.proofs.Library.{_≡_, refl, sym, subst, _∙_, Bool, true, false, _⊎_, inl, inr, ⊎-elim}
 use Rattle.rules.specs.Strings.{Str, prefix, same, less, _▹_}
 use Rattle.rules.specs.Names.{Name, any, rising}
 use Rattle.rules.specs.Stamps.{Stamp, settle, settled, reduce}

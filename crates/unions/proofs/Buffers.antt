@@ -1,11 +1,7 @@
 -- A buffer with words at its front and zeros in the place of what is gone: union, reduction and what reduction makes of an update leave such a buffer.
 -- Assumes nothing.
-use mathlib.Core.Path.{_≡_, refl, sym, ap, _∙_}
-use mathlib.Core.List.{List, _++_, append-assoc}
-use Prim.Native.Nat.{ℕ, zero, suc, _+_, _-_, _≤_}
-use native.Mathlib.Omega.{arith}
-use lib.ListN.{length, take, drop, replicate, length-append, length-replicate, replicate-append-replicate}
-use lib.Seq.{sets, sets-eq, take-at, drop-at}
+use Rattle.laws.proofs.Library.{_≡_, refl, sym, ap, _∙_, List, _++_, append-assoc, ℕ, zero, suc, _+_, _-_, _≤_, arith, length, take, drop, replicate}
+use Rattle.laws.proofs.Library.{length-append, length-replicate, replicate-append-replicate, sets, sets-eq, take-at, drop-at}
 use Rattle.rules.specs.Packed.{over}
 use Rattle.unions.specs.Unions.{cleared}
 

@@ -1,10 +1,5 @@
 -- None of the three leaves more words than it is given. Assumes nothing.
-use mathlib.Core.Bool.{Bool, true, false, cond}
-use mathlib.Core.List.{List, [], _∷_}
-use Prim.Native.Nat.{ℕ, suc, _+_, _-_, _≤_}
-use native.Mathlib.Omega.{arith}
-use lib.Dec.{eqb, ltb}
-use lib.ListN.{length, length-reverse}
+use Rattle.laws.proofs.Library.{Bool, true, false, cond, List, [], _∷_, ℕ, suc, _+_, _-_, _≤_, arith, eqb, ltb, length, length-reverse}
 use Rattle.rules.specs.Strings.{siblings, strOf}
 use Rattle.strings.specs.Words.{begins}
 use Rattle.unions.specs.Unions.{mergeFrom, merge, push, pushAll, reduced, seek, lift, onceFrom, once, lifted}

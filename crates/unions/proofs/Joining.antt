@@ -1,14 +1,7 @@
 -- The join of two lawful stamps in words: both names merged are the unions, and reduced and lifted they are the join's. A buffer for the strings of two
 -- names has room for all of it. Assumes nothing.
-use mathlib.Core.Path.{_≡_, refl, sym, ap, ap₂, _∙_, subst}
-use mathlib.Core.Bool.{true}
-use mathlib.Core.List.{List, [], _∷_, map}
-use mathlib.Core.Logic.{inl, inr}
-use Prim.Native.Nat.{ℕ, _+_, _*_, _-_, _≤_}
-use native.Mathlib.Omega.{arith}
-use borrow.Author.Tests.{le-leb}
-use lib.ListN.{length, take, replicate, length-map, length-replicate}
-use lib.Seq.{take-at}
+use Rattle.laws.proofs.Library.{_≡_, refl, sym, ap, ap₂, _∙_, subst, true, List, [], _∷_, map, inl, inr, ℕ, _+_, _*_, _-_, _≤_, arith, le-leb, length, take}
+use Rattle.laws.proofs.Library.{replicate, length-map, length-replicate, take-at}
 use Rattle.rules.specs.Limits.{narrow}
 use Rattle.rules.specs.Strings.{wordOf, strOf, isWord}
 use Rattle.rules.specs.Names.{Name, all, rising, union}

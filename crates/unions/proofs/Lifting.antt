@@ -1,14 +1,7 @@
 -- One walk over the reduced id and the update finds what each string of the update becomes: an id's string that is passed over comes before the string
 -- in hand and all behind it, so it is a prefix of none of them. Assumes nothing.
-use mathlib.Core.Path.{_≡_, refl, sym, _∙_, subst}
-use mathlib.Core.Bool.{Bool, true, false, cond}
-use mathlib.Core.List.{List, [], _∷_}
-use mathlib.Core.Logic.{_⊎_, inl, inr, ⊎-elim}
-use Prim.Native.Nat.{ℕ, _≤_}
-use native.Mathlib.Nat.{le-of-lt}
-use native.Mathlib.Omega.{arith}
-use borrow.Author.Tests.{ltb-true, ltb-false, eqb-true, eqb-false}
-use lib.Dec.{eqb, ltb}
+use Rattle.laws.proofs.Library.{_≡_, refl, sym, _∙_, subst, Bool, true, false, cond, List, [], _∷_, _⊎_, inl, inr, ⊎-elim, ℕ, _≤_, le-of-lt, arith}
+use Rattle.laws.proofs.Library.{ltb-true, ltb-false, eqb-true, eqb-false, eqb, ltb}
 use Rattle.rules.specs.Strings.{Str, prefix, less, strOf, isWord}
 use Rattle.rules.specs.Names.{Name, all, rising}
 use Rattle.rules.specs.Stamps.{Stamp, reduce}

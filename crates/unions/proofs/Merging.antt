@@ -1,13 +1,7 @@
 -- The merge of two rising names is the document's union: it rises, it holds nothing else, and what is lost is a prefix of something
 -- that stays. Assumes nothing.
-use mathlib.Core.Path.{_≡_, refl, sym, subst, _∙_}
-use mathlib.Core.Bool.{Bool, true, false, cond}
-use mathlib.Core.List.{List, [], _∷_, _++_}
-use mathlib.Core.Logic.{_⊎_, inl, inr, ⊎-elim}
-use Prim.Native.Nat.{ℕ, _≤_}
-use native.Mathlib.Nat.{le-of-lt}
-use borrow.Author.Tests.{ltb-true, ltb-false}
-use lib.Dec.{ltb}
+use Rattle.laws.proofs.Library.{_≡_, refl, sym, subst, _∙_, Bool, true, false, cond, List, [], _∷_, _++_, _⊎_, inl, inr, ⊎-elim, ℕ, _≤_, le-of-lt, ltb-true}
+use Rattle.laws.proofs.Library.{ltb-false, ltb}
 use Rattle.rules.specs.Strings.{Str, prefix, less, strOf, isWord}
 use Rattle.rules.specs.Names.{all, rising, union}
 use Rattle.laws.proofs.Tests.{In, in-left, in-right, in-append, Some, all-each, each-all}

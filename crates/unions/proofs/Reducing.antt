@@ -1,14 +1,7 @@
 -- The stack leaves what reduction leaves of the id: each time two siblings give way to what they share, that is a step of reduction, and at the end
 -- no two neighbours are siblings, so no step is left. Assumes nothing.
-use mathlib.Core.Path.{_≡_, refl, sym, ap, ap₂, _∙_, subst}
-use mathlib.Core.Bool.{Bool, true, false, cond}
-use mathlib.Core.List.{List, [], _∷_, _++_, reverseAux}
-use mathlib.Core.Logic.{_⊎_, inl, inr, ⊎-elim}
-use mathlib.Core.Option.{none}
-use Prim.Native.Nat.{ℕ, _+_, _-_, _≤_}
-use native.Mathlib.Omega.{arith}
-use lib.ListN.{length}
-use lib.Seq.{append-snoc}
+use Rattle.laws.proofs.Library.{_≡_, refl, sym, ap, ap₂, _∙_, subst, Bool, true, false, cond, List, [], _∷_, _++_, reverseAux, _⊎_, inl, inr, ⊎-elim, none}
+use Rattle.laws.proofs.Library.{ℕ, _+_, _-_, _≤_, arith, length, append-snoc}
 use Rattle.rules.specs.Strings.{Str, less, siblings, _▹_, wordOf, strOf, isWord}
 use Rattle.rules.specs.Names.{Name, all, rising}
 use Rattle.rules.specs.Stamps.{Stamp, pair, settle, settled, reduce}

@@ -1,15 +1,7 @@
 -- What a turn of `seek`, of `put_once` and of `lift` leaves to do. Assumes nothing.
-use mathlib.Core.Path.{_≡_, refl, sym, ap, _∙_}
-use mathlib.Core.Bool.{Bool, true, false, cond, not, _&&_, and-false}
-use mathlib.Core.List.{List, [], _∷_, reverseAux, reverse}
-use mathlib.Core.Logic.{_⊎_, inl, inr}
-use Prim.Native.Nat.{ℕ, zero, suc, _+_, _-_, _≤_, _<_}
-use native.Mathlib.Numerals.{add-one}
-use native.Mathlib.Omega.{arith}
-use borrow.Author.Tests.{lt-ltb, le-ltb, eq-eqb, ne-eqb}
-use lib.Dec.{eqb, ltb}
-use lib.ListN.{length, getD, take, drop, drop-of-length-le}
-use lib.Seq.{drop-cons, getD-take, length-take-le}
+use Rattle.laws.proofs.Library.{_≡_, refl, sym, ap, _∙_, Bool, true, false, cond, not, _&&_, and-false, List, [], _∷_, reverseAux, reverse, _⊎_, inl, inr}
+use Rattle.laws.proofs.Library.{ℕ, zero, suc, _+_, _-_, _≤_, _<_, add-one, arith, lt-ltb, le-ltb, eq-eqb, ne-eqb, eqb, ltb, length, getD, take, drop}
+use Rattle.laws.proofs.Library.{drop-of-length-le, drop-cons, getD-take, length-take-le}
 use Rattle.strings.specs.Words.{begins}
 use Rattle.unions.specs.Unions.{stack, seek, root, lift, onceFrom, once, lifted, onceOn}
 use Rattle.unions.proofs.Stacks.{stack-top, stack-front, drop-on, same-at}

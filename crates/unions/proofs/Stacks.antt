@@ -1,15 +1,8 @@
 -- The first words of a buffer as a stack, last first: what a push, a store and a turn of `reduce` make of it. Assumes nothing.
-use mathlib.Core.Path.{_≡_, refl, sym, ap, ap₂, _∙_}
-use mathlib.Core.Bool.{true, false}
-use mathlib.Core.List.{List, [], _∷_, _++_, reverseAux, reverse, append-assoc, append-nil}
-use mathlib.Core.Logic.{_⊎_, inl, inr}
-use Prim.Native.Nat.{ℕ, zero, suc, _+_, _-_, _≤_, _<_}
-use native.Mathlib.Numerals.{add-one}
-use native.Mathlib.Omega.{arith}
-use borrow.Author.Tests.{eqb-true}
-use lib.Dec.{eqb}
-use lib.ListN.{length, getD, take, drop, set, replicate, length-append, length-replicate, drop-of-length-le}
-use lib.Seq.{sets, sets-eq, take-suc, drop-cons, drop-drop, getD-drop, getD-take, getD-set-same, getD-set-other, length-take-le}
+use Rattle.laws.proofs.Library.{_≡_, refl, sym, ap, ap₂, _∙_, true, false, List, [], _∷_, _++_, reverseAux, reverse, append-assoc, append-nil, _⊎_, inl}
+use Rattle.laws.proofs.Library.{inr, ℕ, zero, suc, _+_, _-_, _≤_, _<_, add-one, arith, eqb-true, eqb, length, getD, take, drop, set, replicate}
+use Rattle.laws.proofs.Library.{length-append, length-replicate, drop-of-length-le, sets, sets-eq, take-suc, drop-cons, drop-drop, getD-drop, getD-take}
+use Rattle.laws.proofs.Library.{getD-set-same, getD-set-other, length-take-le}
 use Rattle.rules.specs.Strings.{siblings, common, strOf}
 use Rattle.rules.specs.Packed.{over}
 use Rattle.laws.proofs.Tests.{and-right}

@@ -1,12 +1,6 @@
 -- Words stored one after the other are one store of all of them, and a store at the front is those words over the buffer. Assumes nothing.
-use mathlib.Core.Path.{_≡_}
-use mathlib.Core.List.{List, [], _∷_, _++_}
-use Prim.Native.Nat.{ℕ, suc, _+_, _≤_, _<_}
-use native.Mathlib.Nat.{zero-add, add-zero, add-suc, suc-add}
-use native.Mathlib.Numerals.{add-one}
-use native.Mathlib.Omega.{arith}
-use lib.ListN.{length, drop, getD, set}
-use lib.Seq.{sets, sets-eq, drop-cons}
+use Rattle.laws.proofs.Library.{_≡_, List, [], _∷_, _++_, ℕ, suc, _+_, _≤_, _<_, zero-add, add-zero, add-suc, suc-add, add-one, arith, length, drop, getD}
+use Rattle.laws.proofs.Library.{set, sets, sets-eq, drop-cons}
 use Rattle.rules.specs.Packed.{over}
 
 pub sets-append : (s t l : List ℕ) (i : ℕ) → sets l i (s ++ t) ≡ sets (sets l i s) (i + length s) t

@@ -1,15 +1,7 @@
 -- What the loop of `unite` comes to from a turn on: a turn leaves it as it was, and at the end one of the two is all that is left. Assumes nothing.
-use mathlib.Core.Path.{_≡_, refl, sym, ap, ap₂, _∙_}
-use mathlib.Core.Bool.{Bool, true, false, cond, not}
-use mathlib.Core.List.{List, [], _∷_, _++_, append-nil}
-use mathlib.Core.Logic.{_⊎_, inl, inr}
-use Prim.Native.Nat.{ℕ, suc, _+_, _≤_, _<_}
-use native.Mathlib.Nat.{zero-add, add-assoc}
-use native.Mathlib.Numerals.{add-one}
-use native.Mathlib.Omega.{arith}
-use borrow.Author.Tests.{lt-ltb, le-ltb}
-use lib.ListN.{length, drop, getD, length-append, drop-of-length-le}
-use lib.Seq.{sets, drop-cons}
+use Rattle.laws.proofs.Library.{_≡_, refl, sym, ap, ap₂, _∙_, Bool, true, false, cond, not, List, [], _∷_, _++_, append-nil, _⊎_, inl, inr, ℕ, suc, _+_}
+use Rattle.laws.proofs.Library.{_≤_, _<_, zero-add, add-assoc, add-one, arith, lt-ltb, le-ltb, length, drop, getD, length-append, drop-of-length-le, sets}
+use Rattle.laws.proofs.Library.{drop-cons}
 use Rattle.rules.specs.Packed.{over}
 use Rattle.strings.specs.Words.{begins}
 use Rattle.unions.specs.Unions.{opt, mergeFrom, merge}

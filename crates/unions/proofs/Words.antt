@@ -1,13 +1,6 @@
 -- Words of strings, one string to a word, and the strings of a list of them. Assumes nothing.
-use mathlib.Core.Path.{_≡_, refl, sym, ap, _∙_}
-use mathlib.Core.Bool.{Bool, true}
-use mathlib.Core.List.{List, [], _∷_, map}
-use mathlib.Core.Logic.{inl, inr, ⊎-elim}
-use Prim.Native.Nat.{ℕ, _≤_}
-use native.Mathlib.Omega.{arith}
-use borrow.Author.Tests.{eq-eqb, leb-true, le-leb}
-use lib.Dec.{eqb, leb}
-use lib.ListN.{length}
+use Rattle.laws.proofs.Library.{_≡_, refl, sym, ap, _∙_, Bool, true, List, [], _∷_, map, inl, inr, ⊎-elim, ℕ, _≤_, arith, eq-eqb, leb-true, le-leb, eqb}
+use Rattle.laws.proofs.Library.{leb, length}
 use Rattle.rules.specs.Strings.{Str, prefix, wordOf, strOf, isWord}
 use Rattle.rules.specs.Names.{Name}
 use Rattle.laws.proofs.Tests.{and-left, and-both, In}

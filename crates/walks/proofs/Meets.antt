@@ -1,14 +1,7 @@
 -- What the walks tell of stored stamps, over any limits: the words that a lawful stamp's record counts are words of strings in rising order, so
 -- what the walks answer is what the rules do. Assumes nothing.
-use mathlib.Core.Path.{_≡_, refl, sym, ap, ap₂, _∙_}
-use mathlib.Core.Bool.{Bool, true, _||_}
-use mathlib.Core.List.{[], _∷_, map}
-use mathlib.Core.Logic.{inl, inr}
-use Prim.Native.Nat.{_-_, _≤_}
-use native.Mathlib.Omega.{arith}
-use borrow.Author.Tests.{le-leb, eq-eqb}
-use lib.ListN.{length, replicate, length-map}
-use lib.Seq.{take-at}
+use Rattle.laws.proofs.Library.{_≡_, refl, sym, ap, ap₂, _∙_, Bool, true, _||_, [], _∷_, map, inl, inr, _-_, _≤_, arith, le-leb, eq-eqb, length, replicate}
+use Rattle.laws.proofs.Library.{length-map, take-at}
 use Rattle.rules.specs.Limits.{Limits}
 use Rattle.rules.specs.Strings.{Str, wordOf, strOf, isWord}
 use Rattle.rules.specs.Names.{Name, all, rising, below}

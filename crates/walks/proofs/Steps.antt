@@ -1,15 +1,6 @@
 -- One word more, as a loop wants it: what each walk says of lists from an index on, by the word that stands there. Assumes nothing.
-use mathlib.Core.Path.{_≡_, refl, sym, ap, ap₂, _∙_}
-use mathlib.Core.Bool.{Bool, false, true, cond, not, _&&_, _||_}
-use mathlib.Core.List.{List, [], _∷_}
-use mathlib.Core.Logic.{_⊎_, ⊎-elim}
-use Prim.Native.Nat.{ℕ, _+_, _-_, _%_, _≤_, _<_}
-use native.Mathlib.Omega.{arith}
-use native.Mathlib.Numerals.{add-one}
-use borrow.Author.Tests.{lt-ltb, le-ltb}
-use lib.Dec.{eqb}
-use lib.ListN.{length, getD, drop, length-drop, drop-of-length-le}
-use lib.Seq.{drop-cons}
+use Rattle.laws.proofs.Library.{_≡_, refl, sym, ap, ap₂, _∙_, Bool, false, true, cond, not, _&&_, _||_, List, [], _∷_, _⊎_, ⊎-elim, ℕ, _+_, _-_, _%_, _≤_}
+use Rattle.laws.proofs.Library.{_<_, arith, add-one, lt-ltb, le-ltb, eqb, length, getD, drop, length-drop, drop-of-length-le, drop-cons}
 use Rattle.rules.specs.Strings.{siblings, strOf}
 use Rattle.rules.specs.Names.{any}
 use Rattle.strings.specs.Words.{begins}

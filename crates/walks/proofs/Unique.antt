@@ -1,5 +1,5 @@
 -- Each public contract is an equation for the result and for what was lent, so it leaves one answer. Assumes nothing.
-use mathlib.Core.Path.{refl}
+use Rattle.laws.proofs.Library.{refl}
 use Rattle.rules.specs.Contracts.{OneAnswer}
 use Rattle.laws.proofs.Contracts.{agree, both-say}
 use Rattle.walks.proofs.meet

@@ -1,16 +1,7 @@
 -- What the proofs of the writers cite: words that fit, bits behind bits in a word, and a byte behind bytes. Assumes nothing.
-use mathlib.Core.Path.{_≡_, refl, sym, ap, ap₂, _∙_, subst}
-use mathlib.Core.Bool.{Bool, true, false, cond, _&&_}
-use mathlib.Core.List.{List, [], _∷_, _++_, map, append-assoc, append-nil}
-use Prim.Native.Nat.{ℕ, _+_, _*_, _-_, _%_, _^_, _≤_, _<_}
-use native.Mathlib.Nat.{add-zero, mod-lt}
-use native.Mathlib.Numerals.{add-one}
-use native.Mathlib.Omega.{arith}
-use borrow.Author.Tests.{le-leb, leb-true}
-use lib.Dec.{leb}
-use lib.Pow.{pow-pos, shl-shr, mod-pow-add, mod-mod-pow, low}
-use lib.ListN.{length, getD, take, drop, set, length-map}
-use lib.Seq.{drop-cons, take-suc-set}
+use Rattle.laws.proofs.Library.{_≡_, refl, sym, ap, ap₂, _∙_, subst, Bool, true, false, cond, _&&_, List, [], _∷_, _++_, map, append-assoc, append-nil, ℕ}
+use Rattle.laws.proofs.Library.{_+_, _*_, _-_, _%_, _^_, _≤_, _<_, add-zero, mod-lt, add-one, arith, le-leb, leb-true, leb, pow-pos, shl-shr, mod-pow-add}
+use Rattle.laws.proofs.Library.{mod-mod-pow, low, length, getD, take, drop, set, length-map, drop-cons, take-suc-set}
 use Rattle.rules.specs.Limits.{Limits, narrow}
 use Rattle.rules.specs.Strings.{field, strOf}
 use Rattle.rules.specs.Names.{all, isName}

@@ -1,9 +1,5 @@
 -- `answers::refusal_code` meets its contract: no refusal has a number above 13. Assumes nothing.
-use borrow.Author.Needs.{needs}
-use mathlib.Core.Path.{ap}
-use native.Mathlib.Omega.{arith}
-use Prim.Native.Nat.{ℕ, _≤_, _+_}
-use lib.Dec.{lit≤}
+use Rattle.laws.proofs.Library.{needs, ap, arith, ℕ, _≤_, _+_, lit≤}
 use Rattle.rules.specs.Refusals.{number}
 use Rattle.rules.specs.declared.Refusal.{Refusal}
 use Rattle.rules.specs.declared.Refusal.the-variants.{Malformed, Unlawful, NoSlot, OneSlot, Full, Long, Many, Overlap, Unseen, Short, Unread, Unfit, Ended}
@@ -25,9 +21,6 @@ number-small Unread = lit≤ tt
 number-small Unfit = lit≤ tt
 number-small Ended = lit≤ tt
 
-refusal-number-requires : tie.Need-refusal-number-requires
-refusal-number-requires c κs = search needs
-
 add-result : tie.Need-add-result
 add-result c = omega (arith, number-small (c .before .args .r), c .refusal-number .ensures)
 
@@ -35,4 +28,4 @@ returns : tie.Need-returns
 returns c = ap (λ (n : ℕ). 1000 + n) (c .refusal-number .ensures)
 
 pub refusal-code-spec : {M : Type 1} → statement M
-refusal-code-spec = tie.close (tie.spec refusal-number-requires add-result returns)
+refusal-code-spec = tie.close (tie.spec (λ c κs. search needs) add-result returns)

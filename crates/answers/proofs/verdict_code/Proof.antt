@@ -1,21 +1,8 @@
 -- `answers::verdict_code` meets its contract: one way for each verdict. Assumes nothing.
-use mathlib.Core.Path.{sym, ap}
+use Rattle.laws.proofs.Library.{sym, ap, needs}
 use Rattle.rules.specs.Refusals.{verdictNumber}
-use borrow.Author.Needs.{needs}
 use Rattle.answers.proofs.verdict_code.Statement.{statement}
 use Rattle.answers.proofs.verdict_code.Tie as tie
-
-enum-told : tie.Need-enum-told
-enum-told c = search needs
-
-enum-told-2 : tie.Need-enum-told-2
-enum-told-2 c = search needs
-
-enum-told-3 : tie.Need-enum-told-3
-enum-told-3 c = search needs
-
-enum-told-4 : tie.Need-enum-told-4
-enum-told-4 c = search needs
 
 returns : tie.Need-returns
 returns c = sym (ap verdictNumber (c .enum-told .given .1))
@@ -30,14 +17,5 @@ returns-4 : tie.Need-returns-4
 returns-4 c = sym (ap verdictNumber (c .enum-told4 .given .1))
 
 pub verdict-code-spec : {M : Type 1} → statement M
-verdict-code-spec =
-    tie.close
-    (tie.spec
-    enum-told
-    enum-told-2
-    enum-told-3
-    enum-told-4
-    returns
-    returns-2
-    returns-3
+verdict-code-spec = tie.close (tie.spec (λ c. search needs) (λ c. search needs) (λ c. search needs) (λ c. search needs) returns returns-2 returns-3
     returns-4)

@@ -1,8 +1,5 @@
 -- `bundles::entry` meets its contract: the place that was found is handed on as a part of the bundle, and a refusal is told. Assumes nothing.
-use mathlib.Core.Path.{_≡_, sym, ap, _∙_, subst}
-use mathlib.Core.List.{List}
-use Prim.Native.Nat.{ℕ}
-use borrow.Author.Needs.{needs}
+use Rattle.laws.proofs.Library.{_≡_, sym, ap, _∙_, subst, List, ℕ, needs}
 use Rattle.rules.specs.Limits.{narrow}
 use Rattle.rules.specs.Bundles.{readPart, readEntry}
 use Rattle.bundles.specs.Places.{placed, Inside}
@@ -15,18 +12,6 @@ module _ (b : List ℕ) (k : ℕ) (p : Place) (e : placed b p ≡ Rattle.rules.
   told : (q : Place) → p ≡ q → readPart narrow (placed b q) ≡ readEntry narrow k b
   unfolding readEntry
   told q t = ap (λ (x : Place). readPart narrow (placed b x)) (sym t) ∙ ap (readPart narrow) e
-
-find-requires : tie.Need-find-requires
-find-requires c κs = search needs
-
-enum-known-p : tie.Need-enum-known-p
-enum-known-p c = search needs
-
-refused-requires : tie.Need-refused-requires
-refused-requires c κs = search needs
-
-enum-known-p-2 : tie.Need-enum-known-p-2
-enum-known-p-2 c = search needs
 
 sub-read : tie.Need-sub-read
 sub-read c =
@@ -43,9 +28,6 @@ part-read-end c =
     let f = c .before .before .before in
     subst (Inside (f .before .before .args .b .now)) (c .before .p2 .given .1) (f .find .ensures .1) .1
 
-read-requires : tie.Need-read-requires
-read-requires c κs = search needs
-
 returns : tie.Need-returns
 returns c =
     let f = c .before .before .before .before in
@@ -59,16 +41,5 @@ returns-2 c =
     c .read .ensures ∙ told (g .b .now) (g .k) (f .find .result) (f .find .ensures .0) (At _ _) (c .before .before .before .p2 .given .1)
 
 pub entry-spec : {M : Type 1} → statement M
-entry-spec =
-    tie.close
-    (tie.spec
-    find-requires
-    enum-known-p
-    refused-requires
-    enum-known-p-2
-    sub-read
-    part-read-start
-    part-read-end
-    read-requires
-    returns
-    returns-2)
+entry-spec = tie.close (tie.spec (λ c κs. search needs) (λ c. search needs) (λ c κs. search needs) (λ c. search needs) sub-read part-read-start
+    part-read-end (λ c κs. search needs) returns returns-2)

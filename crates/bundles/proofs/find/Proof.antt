@@ -1,13 +1,7 @@
 -- `bundles::find` meets its contract: what is sought from `at` on is what was sought from the start. Each entry ends behind the byte at which
 -- it begins, so the loop ends whatever k is. Assumes nothing.
-use mathlib.Core.Path.{_≡_, sym, ap, _∙_, subst}
-use mathlib.Core.List.{List}
-use Prim.Native.Nat.{ℕ, zero, suc, _+_, _-_, _≤_, _<_}
-use native.Mathlib.Omega.{arith}
-use borrow.Author.Needs.{needs}
-use borrow.Author.Tests.{lt-ltb, le-ltb}
-use lib.ListN.{length, take, drop, length-drop}
-use lib.Seq.{drop-drop, length-take-le}
+use Rattle.laws.proofs.Library.{_≡_, sym, ap, _∙_, subst, List, ℕ, zero, suc, _+_, _-_, _≤_, _<_, arith, needs, lt-ltb, le-ltb, length, take, drop}
+use Rattle.laws.proofs.Library.{length-drop, drop-drop, length-take-le}
 use Rattle.rules.specs.Limits.{narrow}
 use Rattle.rules.specs.Bundles.{noEntry, frontEntry, entryIn, entry}
 use Rattle.rules.specs.declared.Refusal.{Refusal}
@@ -64,15 +58,6 @@ returns c = (too-large (c .before .before .args .b .now) (c .before .before .arg
 loop-holds : tie.Need-loop-holds Inv-loop μ-loop
 loop-holds c = from-start (c .before .before .args .b .now) (c .before .before .args .k) (omega (arith, c .if1 .left))
 
-front-requires : tie.Need-front-requires Inv-loop μ-loop
-front-requires c κs = search needs
-
-enum-known-p : tie.Need-enum-known-p Inv-loop μ-loop
-enum-known-p c = search needs
-
-enum-told : tie.Need-enum-told Inv-loop μ-loop
-enum-told c = search needs
-
 returns-2 : tie.Need-returns-2 Inv-loop μ-loop
 returns-2 c =
     let f = c .before .before in
@@ -88,9 +73,6 @@ returns-3 c =
     let b = l .before .before .before .args .b .now in
     let e : Front b (l .loop .at) (At _ _) = subst (Front b (l .loop .at)) (p .p .given .1) (f .front .ensures) in
     (found b (l .loop .at) _ _ e (l .loop .left) (omega (arith, c .if2 .taken)) ∙ l .loop .inv, e .1)
-
-sub-left : tie.Need-sub-left Inv-loop μ-loop
-sub-left c = search needs
 
 loop-less : tie.Need-loop-less Inv-loop μ-loop
 loop-less c =
@@ -110,18 +92,5 @@ loop-again c =
     passes b (l .loop .at) _ _ (subst (Front b (l .loop .at)) (p .p .given .1) (f .front .ensures)) (l .loop .left) _ (omega (arith, c .if2 .left)) ∙ l .loop .inv
 
 pub find-spec : {M : Type 1} → statement M
-find-spec =
-    tie.close
-    (tie.spec
-    Inv-loop
-    μ-loop
-    returns
-    loop-holds
-    front-requires
-    enum-known-p
-    enum-told
-    returns-2
-    returns-3
-    sub-left
-    loop-less
-    loop-again)
+find-spec = tie.close (tie.spec Inv-loop μ-loop returns loop-holds (λ c κs. search needs) (λ c. search needs) (λ c. search needs) returns-2 returns-3
+    (λ c. search needs) loop-less loop-again)

@@ -1,16 +1,7 @@
 -- `bundles::front` meets its contract: the list from `at` on is the length byte there and what comes behind it, and the code's tests are
 -- those of that byte and that rest. Assumes nothing.
-use mathlib.Core.Path.{_≡_, refl, sym, ap, _∙_}
-use mathlib.Core.Bool.{cond}
-use mathlib.Core.List.{List}
-use Prim.Native.Nat.{ℕ, _+_, _-_, _≤_, _<_}
-use native.Mathlib.Nat.{add-sub-cancel-left}
-use native.Mathlib.Numerals.{add-one}
-use native.Mathlib.Omega.{arith}
-use borrow.Author.Needs.{needs}
-use borrow.Author.Tests.{lt-ltb, le-ltb}
-use lib.ListN.{length, getD, take, drop, length-drop, drop-of-length-le}
-use lib.Seq.{drop-cons}
+use Rattle.laws.proofs.Library.{_≡_, refl, sym, ap, _∙_, cond, List, ℕ, _+_, _-_, _≤_, _<_, add-sub-cancel-left, add-one, arith, needs, lt-ltb, le-ltb}
+use Rattle.laws.proofs.Library.{length, getD, take, drop, length-drop, drop-of-length-le, drop-cons}
 use Rattle.rules.specs.Limits.{narrow}
 use Rattle.rules.specs.Bundles.{part, noEntry, badEntry, frontEntry}
 use Rattle.rules.specs.declared.Refusal.the-variants.{Malformed, Ended}
@@ -55,9 +46,6 @@ module _ (b : List ℕ) (at : ℕ) where
 returns : tie.Need-returns
 returns c = (ended (c .before .args .b .now) (c .before .args .at) (c .if1 .taken), tt, tt)
 
-shared-slice-read-n : tie.Need-shared-slice-read-n
-shared-slice-read-n c = search needs
-
 cast-n : tie.Need-cast-n
 cast-n c = omega (arith, c .shared-slice-known .given (c .before .before .args .at))
 
@@ -71,20 +59,11 @@ returns-3 c =
     let e = c .before .before .before in
     (too-large (e .before .args .b .now) (e .before .args .at) (e .if1 .left) (omega (arith, c .before .if2 .left)) (omega (arith, c .if3 .taken)), tt, tt)
 
-add-from : tie.Need-add-from
-add-from c = search needs
-
-sub-if4 : tie.Need-sub-if4
-sub-if4 c = search needs
-
 returns-4 : tie.Need-returns-4
 returns-4 c =
     let t = c .before in
     let e = t .before .before .before in
     (cut-short (e .before .args .b .now) (e .before .args .at) (e .if1 .left) (omega (arith, t .before .if2 .left)) (omega (arith, t .if3 .left)) (omega (arith, c .if4 .taken)), tt, tt)
-
-add-to : tie.Need-add-to
-add-to c = search needs
 
 returns-5 : tie.Need-returns-5
 returns-5 c =
@@ -95,16 +74,5 @@ returns-5 c =
     (fits (e .before .args .b .now) (e .before .args .at) h (omega (arith, t .before .if2 .left)) (omega (arith, t .if3 .left)) (omega arith), (omega arith, omega arith), refl)
 
 pub front-spec : {M : Type 1} → statement M
-front-spec =
-    tie.close
-    (tie.spec
-    returns
-    shared-slice-read-n
-    cast-n
-    returns-2
-    returns-3
-    add-from
-    sub-if4
-    returns-4
-    add-to
-    returns-5)
+front-spec = tie.close (tie.spec returns (λ c. search needs) cast-n returns-2 returns-3 (λ c. search needs) (λ c. search needs) returns-4
+    (λ c. search needs) returns-5)

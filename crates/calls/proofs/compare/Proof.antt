@@ -1,13 +1,6 @@
 -- `calls::compare` meets its contract: what the readers refuse is passed out, the first's before the second's; then two lawful stamps are
 -- compared. Assumes nothing.
-use mathlib.Core.Path.{_≡_, sym, ap, _∙_}
-use mathlib.Core.Bool.{true}
-use mathlib.Core.List.{List}
-use Prim.Native.Nat.{ℕ, _≤_}
-use borrow.Author.Needs.{needs}
-use lib.Dec.{lit≤}
-use lib.ListN.{length}
-use lib.Seq.{length-take-le}
+use Rattle.laws.proofs.Library.{_≡_, sym, ap, _∙_, true, List, ℕ, _≤_, needs, lit≤, length, length-take-le}
 use Rattle.rules.specs.Limits.{narrow}
 use Rattle.rules.specs.Stored.{isStored}
 use Rattle.rules.specs.Values.{compared}
@@ -92,36 +85,12 @@ module _ (c : tie.After-enum-told3) where
   n-inside : got2 twice .stamp .id .count ≤ length (got2 twice .stamp .id .words)
   n-inside = lent-room _ _ (stored-names narrow (got2 twice .stamp) lawful2 .1)
 
-read-in-requires : tie.Need-read-in-requires
-read-in-requires c κs = search needs
-
-enum-told : tie.Need-enum-told
-enum-told c = search needs
-
-enum-told-2 : tie.Need-enum-told-2
-enum-told-2 c = search needs
-
-uncompared-requires : tie.Need-uncompared-requires
-uncompared-requires c κs = search needs
-
 returns : tie.Need-returns
 returns c =
     let r = c .before .before .before in
     let g = start r .args in
     let no = c .before .enum-told2 .given .1 in
     passed _ (r .read-in .result .answer) _ (c .uncompared .ensures) no ∙ first-refused (g .first .now) (g .second .now) (got r) (is-got r) _ no
-
-read-in-requires-2 : tie.Need-read-in-requires-2
-read-in-requires-2 c κs = search needs
-
-enum-told-3 : tie.Need-enum-told-3
-enum-told-3 c = search needs
-
-enum-told-4 : tie.Need-enum-told-4
-enum-told-4 c = search needs
-
-uncompared-requires-2 : tie.Need-uncompared-requires-2
-uncompared-requires-2 c κs = search needs
 
 returns-2 : tie.Need-returns-2
 returns-2 c =
@@ -132,32 +101,11 @@ returns-2 c =
     passed _ (q .read-in2 .result .answer) _ (c .uncompared2 .ensures) no
     ∙ second-refused (g .first .now) (g .second .now) (got r) (is-got r) (once q .enum-told .given .1) (got2 q) (is-got2 q) _ no
 
-array-share-prefix-u : tie.Need-array-share-prefix-u
-array-share-prefix-u c = k-inside c
-
-slice-aggregate-compare : tie.Need-slice-aggregate-compare
-slice-aggregate-compare c = sym (length-take-le _ _ (k-inside (c .before)))
-
-array-share-prefix-i : tie.Need-array-share-prefix-i
-array-share-prefix-i c = l-inside (c .before)
-
-slice-aggregate-compare-2 : tie.Need-slice-aggregate-compare-2
-slice-aggregate-compare-2 c = sym (length-take-le _ _ (l-inside (c .before .before)))
-
-array-share-prefix-v : tie.Need-array-share-prefix-v
-array-share-prefix-v c = m-inside (c .before .before)
-
 slice-aggregate-compare-3 : tie.Need-slice-aggregate-compare-3
 slice-aggregate-compare-3 c = sym (length-take-le _ _ (m-inside (c .before .before .before)))
 
-array-share-prefix-j : tie.Need-array-share-prefix-j
-array-share-prefix-j c = n-inside (c .before .before .before)
-
 slice-aggregate-compare-4 : tie.Need-slice-aggregate-compare-4
 slice-aggregate-compare-4 c = sym (length-take-le _ _ (n-inside (c .before .before .before .before)))
-
-compare-requires : tie.Need-compare-requires
-compare-requires c κs = search needs
 
 returns-3 : tie.Need-returns-3
 returns-3 c =
@@ -170,26 +118,8 @@ returns-3 c =
     h ∙ both-read (g .first .now) (g .second .now) (got r) (is-got r) (once q .enum-told .given .1) (got2 q) (is-got2 q) (b .enum-told3 .given .1)
 
 pub compare-spec : {M : Type 1} → statement M
-compare-spec =
-    tie.close
-    (tie.spec
-    read-in-requires
-    enum-told
-    enum-told-2
-    uncompared-requires
-    returns
-    read-in-requires-2
-    enum-told-3
-    enum-told-4
-    uncompared-requires-2
-    returns-2
-    array-share-prefix-u
-    slice-aggregate-compare
-    array-share-prefix-i
-    slice-aggregate-compare-2
-    array-share-prefix-v
-    slice-aggregate-compare-3
-    array-share-prefix-j
-    slice-aggregate-compare-4
-    compare-requires
-    returns-3)
+compare-spec = tie.close (tie.spec (λ c κs. search needs) (λ c. search needs) (λ c. search needs) (λ c κs. search needs) returns
+    (λ c κs. search needs) (λ c. search needs) (λ c. search needs) (λ c κs. search needs) returns-2 k-inside
+    (λ c. sym (length-take-le _ _ (k-inside (c .before)))) (λ c. l-inside (c .before)) (λ c. sym (length-take-le _ _ (l-inside (c .before .before))))
+    (λ c. m-inside (c .before .before)) slice-aggregate-compare-3 (λ c. n-inside (c .before .before .before)) slice-aggregate-compare-4
+    (λ c κs. search needs) returns-3)

@@ -1,14 +1,7 @@
 -- `calls::fork` meets its contract: what the reader refuses is passed out, then an id that can grow no longer. Both branches of a lawful stamp
 -- are lawful, so that their words fit, and only the buffers are left to refuse. Assumes nothing.
-use mathlib.Core.Path.{_≡_, sym, ap, _∙_}
-use mathlib.Core.Bool.{Bool, true, false}
-use mathlib.Core.List.{List, []}
-use Prim.Native.Nat.{ℕ, _≤_}
-use native.Mathlib.Omega.{arith}
-use borrow.Author.Needs.{needs}
-use lib.Dec.{eqb, lit≤}
-use lib.ListN.{length, take, replicate}
-use lib.Seq.{length-take-le, take-all}
+use Rattle.laws.proofs.Library.{_≡_, sym, ap, _∙_, Bool, true, false, List, [], ℕ, _≤_, arith, needs, eqb, lit≤, length, take, replicate, length-take-le}
+use Rattle.laws.proofs.Library.{take-all}
 use Rattle.rules.specs.Limits.{narrow}
 use Rattle.rules.specs.Strings.{digit}
 use Rattle.rules.specs.Names.{any}
@@ -107,18 +100,6 @@ module _ (c : tie.After-read-in) where
   is-got : got ≡ readStamp narrow (start .args .stamp .now)
   is-got = read-is _ _ _ _ (c .read-in .ensures .0) (c .read-in .ensures .1) (c .read-in .ensures .2)
 
-read-in-requires : tie.Need-read-in-requires
-read-in-requires c κs = search needs
-
-enum-told : tie.Need-enum-told
-enum-told c = search needs
-
-enum-told-2 : tie.Need-enum-told-2
-enum-told-2 c = search needs
-
-refused-requires : tie.Need-refused-requires
-refused-requires c κs = search needs
-
 returns : tie.Need-returns
 returns c =
     let r = c .before .before .before in
@@ -141,15 +122,6 @@ module _ (c : tie.After-enum-told) where
   inside-update : got read .stamp .update .count ≤ length (got read .stamp .update .words)
   inside-update = lent-room (got read .stamp .update .count) (got read .stamp .update .words) (stored-names narrow (got read .stamp) lawful .0)
 
-array-share-prefix-i : tie.Need-array-share-prefix-i
-array-share-prefix-i c = inside c
-
-slice-aggregate-is-long : tie.Need-slice-aggregate-is-long
-slice-aggregate-is-long c = sym (length-take-le _ _ (inside (c .before)))
-
-is-long-requires : tie.Need-is-long-requires
-is-long-requires c κs = search needs
-
 returns-2 : tie.Need-returns-2
 returns-2 c =
     let l = c .before in
@@ -159,14 +131,8 @@ returns-2 c =
     two _ _
     (too-long (g .stamp .now) (g .zero .now) (g .one .now) (got r) (is-got r) (t .enum-told .given .1) (sym (l .is-long .ensures) ∙ c .if1 .taken))
 
-array-share-prefix-i-2 : tie.Need-array-share-prefix-i-2
-array-share-prefix-i-2 c = inside (c .before .before .before)
-
 slice-aggregate-grow : tie.Need-slice-aggregate-grow
 slice-aggregate-grow c = sym (length-take-le _ _ (inside (c .before .before .before .before)))
-
-grow-requires : tie.Need-grow-requires
-grow-requires c κs = search needs
 
 -- both ids are grown
 module _ (c : tie.After-grow) where
@@ -204,32 +170,8 @@ module _ (c : tie.After-grow) where
   one-inside : one-id .count ≤ length (one-id .words)
   one-inside = lent-room (one-id .count) (one-id .words) (stored-names narrow (record { update = got (read done) .stamp .update; id = one-id }) (grown .1) .1)
 
-array-share-prefix-u : tie.Need-array-share-prefix-u
-array-share-prefix-u c = inside-update (done c)
-
-slice-aggregate-write-both : tie.Need-slice-aggregate-write-both
-slice-aggregate-write-both c = sym (length-take-le _ _ (inside-update (done (c .before))))
-
-array-share-prefix-x : tie.Need-array-share-prefix-x
-array-share-prefix-x c = zero-inside (c .before)
-
-slice-aggregate-write-both-2 : tie.Need-slice-aggregate-write-both-2
-slice-aggregate-write-both-2 c = sym (length-take-le _ _ (zero-inside (c .before .before)))
-
-array-share-prefix-y : tie.Need-array-share-prefix-y
-array-share-prefix-y c = one-inside (c .before .before)
-
 slice-aggregate-write-both-3 : tie.Need-slice-aggregate-write-both-3
 slice-aggregate-write-both-3 c = sym (length-take-le _ _ (one-inside (c .before .before .before)))
-
-write-both-requires : tie.Need-write-both-requires
-write-both-requires c κs = search needs
-
-same-length : tie.Need-same-length
-same-length c = search needs
-
-same-length-2 : tie.Need-same-length-2
-same-length-2 c = search needs
 
 returns-3 : tie.Need-returns-3
 returns-3 c =
@@ -244,28 +186,8 @@ returns-3 c =
     (w .write-both .ensures .0 ∙ same .0, w .write-both .ensures .1 ∙ same .1, w .write-both .ensures .2 ∙ same .2)
 
 pub fork-spec : {M : Type 1} → statement M
-fork-spec =
-    tie.close
-    (tie.spec
-    read-in-requires
-    enum-told
-    enum-told-2
-    refused-requires
-    returns
-    array-share-prefix-i
-    slice-aggregate-is-long
-    is-long-requires
-    returns-2
-    array-share-prefix-i-2
-    slice-aggregate-grow
-    grow-requires
-    array-share-prefix-u
-    slice-aggregate-write-both
-    array-share-prefix-x
-    slice-aggregate-write-both-2
-    array-share-prefix-y
-    slice-aggregate-write-both-3
-    write-both-requires
-    same-length
-    same-length-2
-    returns-3)
+fork-spec = tie.close (tie.spec (λ c κs. search needs) (λ c. search needs) (λ c. search needs) (λ c κs. search needs) returns inside
+    (λ c. sym (length-take-le _ _ (inside (c .before)))) (λ c κs. search needs) returns-2 (λ c. inside (c .before .before .before))
+    slice-aggregate-grow (λ c κs. search needs) (λ c. inside-update (done c)) (λ c. sym (length-take-le _ _ (inside-update (done (c .before)))))
+    (λ c. zero-inside (c .before)) (λ c. sym (length-take-le _ _ (zero-inside (c .before .before)))) (λ c. one-inside (c .before .before))
+    slice-aggregate-write-both-3 (λ c κs. search needs) (λ c. search needs) (λ c. search needs) returns-3)

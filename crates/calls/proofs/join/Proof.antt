@@ -1,13 +1,6 @@
 -- `calls::join` meets its contract: what the readers refuse is passed out, the first's before the second's, then what two stamps that meet are
 -- refused for; of the join of two lawful stamps only 7 and 10 are left to refuse. Assumes nothing.
-use mathlib.Core.Path.{_≡_, refl, sym, _∙_}
-use mathlib.Core.Bool.{Bool, true, false}
-use mathlib.Core.List.{List, [], _∷_}
-use Prim.Native.Nat.{ℕ, _≤_}
-use borrow.Author.Needs.{needs}
-use lib.Dec.{lit≤}
-use lib.ListN.{length, take}
-use lib.Seq.{length-take-le}
+use Rattle.laws.proofs.Library.{_≡_, refl, sym, _∙_, Bool, true, false, List, [], _∷_, ℕ, _≤_, needs, lit≤, length, take, length-take-le}
 use Rattle.rules.specs.Limits.{narrow}
 use Rattle.rules.specs.Stamps.{Stamp, join}
 use Rattle.rules.specs.Stored.{strsIn, held, isStored, unlawful}
@@ -134,18 +127,6 @@ module _ (c : tie.After-enum-told3) where
   n-inside : got2 twice .stamp .id .count ≤ length (got2 twice .stamp .id .words)
   n-inside = lent-room _ _ (stored-names narrow (got2 twice .stamp) lawful2 .1)
 
-read-in-requires : tie.Need-read-in-requires
-read-in-requires c κs = search needs
-
-enum-told : tie.Need-enum-told
-enum-told c = search needs
-
-enum-told-2 : tie.Need-enum-told-2
-enum-told-2 c = search needs
-
-refused-requires : tie.Need-refused-requires
-refused-requires c κs = search needs
-
 returns : tie.Need-returns
 returns c =
     let r = c .before .before .before in
@@ -153,18 +134,6 @@ returns c =
     let no = c .before .enum-told2 .given .1 in
     tells-refused _ _ _ (r .read-in .result .answer) _ (c .refused .ensures) no
     (first-refused (g .first .now) (g .second .now) (g .out .now) (got r) (is-got r) _ no)
-
-read-in-requires-2 : tie.Need-read-in-requires-2
-read-in-requires-2 c κs = search needs
-
-enum-told-3 : tie.Need-enum-told-3
-enum-told-3 c = search needs
-
-enum-told-4 : tie.Need-enum-told-4
-enum-told-4 c = search needs
-
-refused-requires-2 : tie.Need-refused-requires-2
-refused-requires-2 c κs = search needs
 
 returns-2 : tie.Need-returns-2
 returns-2 c =
@@ -175,32 +144,11 @@ returns-2 c =
     tells-refused _ _ _ (q .read-in2 .result .answer) _ (c .refused2 .ensures) no
     (second-refused (g .first .now) (g .second .now) (g .out .now) (got r) (is-got r) (once q .enum-told .given .1) (got2 q) (is-got2 q) _ no)
 
-array-share-prefix-u : tie.Need-array-share-prefix-u
-array-share-prefix-u c = k-inside c
-
-slice-aggregate-meet : tie.Need-slice-aggregate-meet
-slice-aggregate-meet c = sym (length-take-le _ _ (k-inside (c .before)))
-
-array-share-prefix-i : tie.Need-array-share-prefix-i
-array-share-prefix-i c = l-inside (c .before)
-
-slice-aggregate-meet-2 : tie.Need-slice-aggregate-meet-2
-slice-aggregate-meet-2 c = sym (length-take-le _ _ (l-inside (c .before .before)))
-
-array-share-prefix-v : tie.Need-array-share-prefix-v
-array-share-prefix-v c = m-inside (c .before .before)
-
 slice-aggregate-meet-3 : tie.Need-slice-aggregate-meet-3
 slice-aggregate-meet-3 c = sym (length-take-le _ _ (m-inside (c .before .before .before)))
 
-array-share-prefix-j : tie.Need-array-share-prefix-j
-array-share-prefix-j c = n-inside (c .before .before .before)
-
 slice-aggregate-meet-4 : tie.Need-slice-aggregate-meet-4
 slice-aggregate-meet-4 c = sym (length-take-le _ _ (n-inside (c .before .before .before .before)))
-
-meet-requires : tie.Need-meet-requires
-meet-requires c κs = search needs
 
 -- the walk has asked what 8 and 9 ask
 module _ (c : tie.After-meet) where
@@ -209,15 +157,6 @@ module _ (c : tie.After-meet) where
 
   asked : c .meet .result ≡ first (meeting narrow (got (done (twice read-both)) .stamp) (got2 (twice read-both) .stamp) [])
   asked = c .meet .ensures ∙ meet-walk narrow (lit≤ tt) (got (done (twice read-both)) .stamp) (got2 (twice read-both) .stamp) (lawful read-both) (lawful2 read-both)
-
-enum-told-5 : tie.Need-enum-told-5
-enum-told-5 c = search needs
-
-enum-told-6 : tie.Need-enum-told-6
-enum-told-6 c = search needs
-
-refused-requires-3 : tie.Need-refused-requires-3
-refused-requires-3 c κs = search needs
 
 returns-3 : tie.Need-returns-3
 returns-3 c =
@@ -236,26 +175,11 @@ module _ (c : tie.After-enum-told5) where
   abbrev apart : tie.After-enum-told3
   apart = read-both (c .before .before)
 
-array-share-prefix-u-2 : tie.Need-array-share-prefix-u-2
-array-share-prefix-u-2 c = k-inside (apart c)
-
-slice-aggregate-write-joined : tie.Need-slice-aggregate-write-joined
-slice-aggregate-write-joined c = sym (length-take-le _ _ (k-inside (apart (c .before))))
-
-array-share-prefix-i-2 : tie.Need-array-share-prefix-i-2
-array-share-prefix-i-2 c = l-inside (apart (c .before))
-
 slice-aggregate-write-joined-2 : tie.Need-slice-aggregate-write-joined-2
 slice-aggregate-write-joined-2 c = sym (length-take-le _ _ (l-inside (apart (c .before .before))))
 
-array-share-prefix-v-2 : tie.Need-array-share-prefix-v-2
-array-share-prefix-v-2 c = m-inside (apart (c .before .before))
-
 slice-aggregate-write-joined-3 : tie.Need-slice-aggregate-write-joined-3
 slice-aggregate-write-joined-3 c = sym (length-take-le _ _ (m-inside (apart (c .before .before .before))))
-
-array-share-prefix-j-2 : tie.Need-array-share-prefix-j-2
-array-share-prefix-j-2 c = n-inside (apart (c .before .before .before))
 
 slice-aggregate-write-joined-4 : tie.Need-slice-aggregate-write-joined-4
 slice-aggregate-write-joined-4 c = sym (length-take-le _ _ (n-inside (apart (c .before .before .before .before))))
@@ -267,9 +191,6 @@ write-joined-requires c κs =
       record { of = got (done q) .stamp; stored = lawful b; update = refl; id = refl },
       record { of = got2 q .stamp; stored = lawful2 b; update = refl; id = refl },
     )
-
-same-length : tie.Need-same-length
-same-length c = search needs
 
 returns-4 : tie.Need-returns-4
 returns-4 c =
@@ -285,40 +206,10 @@ returns-4 c =
     (w .write-joined .ensures)
 
 pub join-spec : {M : Type 1} → statement M
-join-spec =
-    tie.close
-    (tie.spec
-    read-in-requires
-    enum-told
-    enum-told-2
-    refused-requires
-    returns
-    read-in-requires-2
-    enum-told-3
-    enum-told-4
-    refused-requires-2
-    returns-2
-    array-share-prefix-u
-    slice-aggregate-meet
-    array-share-prefix-i
-    slice-aggregate-meet-2
-    array-share-prefix-v
-    slice-aggregate-meet-3
-    array-share-prefix-j
-    slice-aggregate-meet-4
-    meet-requires
-    enum-told-5
-    enum-told-6
-    refused-requires-3
-    returns-3
-    array-share-prefix-u-2
-    slice-aggregate-write-joined
-    array-share-prefix-i-2
-    slice-aggregate-write-joined-2
-    array-share-prefix-v-2
-    slice-aggregate-write-joined-3
-    array-share-prefix-j-2
-    slice-aggregate-write-joined-4
-    write-joined-requires
-    same-length
-    returns-4)
+join-spec = tie.close (tie.spec (λ c κs. search needs) (λ c. search needs) (λ c. search needs) (λ c κs. search needs) returns (λ c κs. search needs)
+    (λ c. search needs) (λ c. search needs) (λ c κs. search needs) returns-2 k-inside (λ c. sym (length-take-le _ _ (k-inside (c .before))))
+    (λ c. l-inside (c .before)) (λ c. sym (length-take-le _ _ (l-inside (c .before .before)))) (λ c. m-inside (c .before .before))
+    slice-aggregate-meet-3 (λ c. n-inside (c .before .before .before)) slice-aggregate-meet-4 (λ c κs. search needs) (λ c. search needs)
+    (λ c. search needs) (λ c κs. search needs) returns-3 (λ c. k-inside (apart c)) (λ c. sym (length-take-le _ _ (k-inside (apart (c .before)))))
+    (λ c. l-inside (apart (c .before))) slice-aggregate-write-joined-2 (λ c. m-inside (apart (c .before .before))) slice-aggregate-write-joined-3
+    (λ c. n-inside (apart (c .before .before .before))) slice-aggregate-write-joined-4 write-joined-requires (λ c. search needs) returns-4)

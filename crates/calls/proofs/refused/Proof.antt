@@ -1,15 +1,8 @@
 -- `calls::refused` meets its contract: a refusal is told as it is. Assumes nothing.
-use mathlib.Core.Path.{refl}
-use borrow.Author.Needs.{needs}
+use Rattle.laws.proofs.Library.{refl, needs}
 use Rattle.rules.specs.Packed.{wrote}
 use Rattle.calls.proofs.refused.Statement.{statement}
 use Rattle.calls.proofs.refused.Tie as tie
-
-enum-known-a : tie.Need-enum-known-a
-enum-known-a c = search needs
-
-enum-told : tie.Need-enum-told
-enum-told c = search needs
 
 returns : tie.Need-returns
 unfolding wrote
@@ -20,4 +13,4 @@ unfolding wrote
 returns-2 c = rw (c .enum-told .given .1) refl
 
 pub refused-spec : {M : Type 1} → statement M
-refused-spec = tie.close (tie.spec enum-known-a enum-told returns returns-2)
+refused-spec = tie.close (tie.spec (λ c. search needs) (λ c. search needs) returns returns-2)

@@ -1,14 +1,6 @@
 -- `calls::room` meets its contract: what the reader refuses gives 0; else the id has as many strings as were counted, and `longest`
 -- tells the digits. Assumes nothing.
-use mathlib.Core.Path.{_≡_, sym, ap, _∙_}
-use mathlib.Core.Bool.{true}
-use mathlib.Core.List.{List}
-use Prim.Native.Nat.{ℕ, _+_, _*_, _<_, _≤_}
-use native.Mathlib.Omega.{arith}
-use borrow.Author.Needs.{needs}
-use lib.Dec.{lit≤}
-use lib.ListN.{length, take, length-map}
-use lib.Seq.{length-take-le}
+use Rattle.laws.proofs.Library.{_≡_, sym, ap, _∙_, true, List, ℕ, _+_, _*_, _<_, _≤_, arith, needs, lit≤, length, take, length-map, length-take-le}
 use Rattle.rules.specs.Limits.{narrow}
 use Rattle.rules.specs.Strings.{strOf}
 use Rattle.rules.specs.Stored.{isStored, held, strsIn}
@@ -79,15 +71,6 @@ module _ (c : tie.After-longest) where
   short : c .longest .result < 64
   short = omega (arith, told, longest-few (take (got (read done) .stamp .id .count) (got (read done) .stamp .id .words)))
 
-read-in-requires : tie.Need-read-in-requires
-read-in-requires c κs = search needs
-
-enum-told : tie.Need-enum-told
-enum-told c = search needs
-
-enum-told-2 : tie.Need-enum-told-2
-enum-told-2 c = search needs
-
 returns : tie.Need-returns
 returns c =
     let r = c .before .before in
@@ -103,12 +86,6 @@ slice-aggregate-longest c =
     let r = read (c .before) in
     sym (length-take-le _ _ (inside (start r .args .stamp .now) (got r) (is-got r) (c .before .enum-told .given .1)))
 
-longest-requires : tie.Need-longest-requires
-longest-requires c κs = search needs
-
-mul-result : tie.Need-mul-result
-mul-result c = let f = few-read (done c) in omega (arith, f)
-
 add-result : tie.Need-add-result
 add-result c =
     let f = few-read (done c) in
@@ -121,16 +98,5 @@ returns-2 c =
     is-room (start r .args .stamp .now) (got r) (is-got r) (done c .enum-told .given .1) _ (told c)
 
 pub room-spec : {M : Type 1} → statement M
-room-spec =
-    tie.close
-    (tie.spec
-    read-in-requires
-    enum-told
-    enum-told-2
-    returns
-    array-share-prefix-i
-    slice-aggregate-longest
-    longest-requires
-    mul-result
-    add-result
-    returns-2)
+room-spec = tie.close (tie.spec (λ c κs. search needs) (λ c. search needs) (λ c. search needs) returns array-share-prefix-i slice-aggregate-longest
+    (λ c κs. search needs) (λ c. let f = few-read (done c) in omega (arith, f)) add-result returns-2)

@@ -1,14 +1,6 @@
 -- `calls::update` meets its contract: a refusal of the reader is passed out, and what is read is lawful, so that its update is too,
 -- and only a short buffer is left to refuse. Assumes nothing.
-use mathlib.Core.Path.{_≡_, sym, ap, _∙_}
-use mathlib.Core.Bool.{true}
-use mathlib.Core.List.{List}
-use Prim.Native.Nat.{ℕ, _≤_}
-use native.Mathlib.Omega.{arith}
-use borrow.Author.Needs.{needs}
-use lib.Dec.{lit≤}
-use lib.ListN.{length, take}
-use lib.Seq.{length-take-le}
+use Rattle.laws.proofs.Library.{_≡_, sym, ap, _∙_, true, List, ℕ, _≤_, arith, needs, lit≤, length, take, length-take-le}
 use Rattle.rules.specs.Limits.{narrow}
 use Rattle.rules.specs.Stored.{isStored}
 use Rattle.rules.specs.Values.{updated}
@@ -64,18 +56,6 @@ module _ (c : tie.After-read-in) where
   is-got : got ≡ readStamp narrow (start .args .stamp .now)
   is-got = read-is _ _ _ _ (c .read-in .ensures .0) (c .read-in .ensures .1) (c .read-in .ensures .2)
 
-read-in-requires : tie.Need-read-in-requires
-read-in-requires c κs = search needs
-
-enum-told : tie.Need-enum-told
-enum-told c = search needs
-
-enum-told-2 : tie.Need-enum-told-2
-enum-told-2 c = search needs
-
-refused-requires : tie.Need-refused-requires
-refused-requires c κs = search needs
-
 returns : tie.Need-returns
 returns c =
     let r = c .before .before .before in
@@ -98,19 +78,10 @@ module _ (c : tie.After-enum-told) where
       let f = stored-full narrow (got read .stamp .id) (n .1) in
       (omega (arith, f, stored-few narrow (got read .stamp .id) (n .1)), omega (arith, f, stored-few narrow (got read .stamp .update) (n .0)))
 
-array-share-prefix-i : tie.Need-array-share-prefix-i
-array-share-prefix-i c = let h = inside c in omega (arith, h .0, h .1)
-
 slice-aggregate-write-alike : tie.Need-slice-aggregate-write-alike
 slice-aggregate-write-alike c =
     let h = inside (c .before) in
     sym (length-take-le _ _ (omega (arith, h .0, h .1)))
-
-write-alike-requires : tie.Need-write-alike-requires
-write-alike-requires c κs = search needs
-
-same-length : tie.Need-same-length
-same-length c = search needs
 
 returns-2 : tie.Need-returns-2
 returns-2 c =
@@ -121,16 +92,5 @@ returns-2 c =
     tells-same _ _ _ _ (writes (g .stamp .now) (g .out .now) (got r) (is-got r) (e .enum-told .given .1)) (w .write-alike .ensures)
 
 pub update-spec : {M : Type 1} → statement M
-update-spec =
-    tie.close
-    (tie.spec
-    read-in-requires
-    enum-told
-    enum-told-2
-    refused-requires
-    returns
-    array-share-prefix-i
-    slice-aggregate-write-alike
-    write-alike-requires
-    same-length
-    returns-2)
+update-spec = tie.close (tie.spec (λ c κs. search needs) (λ c. search needs) (λ c. search needs) (λ c κs. search needs) returns
+    (λ c. let h = inside c in omega (arith, h .0, h .1)) slice-aggregate-write-alike (λ c κs. search needs) (λ c. search needs) returns-2)

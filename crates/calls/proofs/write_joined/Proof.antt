@@ -1,14 +1,7 @@
 -- `calls::write_joined` meets its contract: the first words of both buffers are those of the join, and where its id is not too large the join is
 -- lawful, so that they fit. Assumes nothing.
-use mathlib.Core.Path.{_≡_, sym, ap, ap₂, _∙_, subst}
-use mathlib.Core.Bool.{true, false}
-use mathlib.Core.List.{List}
-use Prim.Native.Nat.{ℕ, _≤_, _<_}
-use native.Mathlib.Omega.{arith}
-use borrow.Author.Needs.{needs}
-use borrow.Author.Tests.{lt-ltb, le-ltb}
-use lib.ListN.{length, take, replicate, length-map}
-use lib.Seq.{length-take-le}
+use Rattle.laws.proofs.Library.{_≡_, sym, ap, ap₂, _∙_, subst, true, false, List, ℕ, _≤_, _<_, arith, needs, lt-ltb, le-ltb, length, take, replicate}
+use Rattle.laws.proofs.Library.{length-map, length-take-le}
 use Rattle.rules.specs.Limits.{narrow}
 use Rattle.rules.specs.Strings.{strOf}
 use Rattle.rules.specs.Names.{Name}
@@ -85,15 +78,6 @@ module _ (u i v j : List ℕ) (x : Lent u i) (y : Lent v j) where
       unfolding wroteJoin writtenNames first
       writes l = rw (lawful-fits narrow (take (r .update) us) (take (r .id) is) (ap (lawful narrow) told-is ∙ is-lawful), told-is, few)
 
-slice-aggregate-join : tie.Need-slice-aggregate-join
-slice-aggregate-join c = search needs
-
-slice-aggregate-join-2 : tie.Need-slice-aggregate-join-2
-slice-aggregate-join-2 c = search needs
-
-join-requires : tie.Need-join-requires
-join-requires c κs = search needs
-
 -- the join in the buffers
 module _ (c : tie.After-join) where
   abbrev begun : tie.Start
@@ -119,23 +103,11 @@ returns c =
     (too-many (g .args .u .now) (g .args .i .now) (g .args .v .now) (g .args .j .now) (g .pre .0) (g .pre .1) (k .join .result) _ _ (joined k)
     (omega (arith, c .if1 .taken)) (g .args .out .now))
 
-array-share-prefix-update : tie.Need-array-share-prefix-update
-array-share-prefix-update c = update-inside (c .before .before .before)
-
 slice-aggregate-write-from : tie.Need-slice-aggregate-write-from
 slice-aggregate-write-from c = sym (length-take-le _ _ (update-inside (c .before .before .before .before)))
 
-array-share-prefix-id : tie.Need-array-share-prefix-id
-array-share-prefix-id c = id-inside (c .before .before .before .before)
-
 slice-aggregate-write-from-2 : tie.Need-slice-aggregate-write-from-2
 slice-aggregate-write-from-2 c = sym (length-take-le _ _ (id-inside (c .before .before .before .before .before)))
-
-write-from-requires : tie.Need-write-from-requires
-write-from-requires c κs = search needs
-
-same-length : tie.Need-same-length
-same-length c = search needs
 
 returns-2 : tie.Need-returns-2
 returns-2 c =
@@ -149,17 +121,6 @@ returns-2 c =
     (w .write-from .ensures .0 ∙ same .0, w .write-from .ensures .1 ∙ same .1)
 
 pub write-joined-spec : {M : Type 1} → statement M
-write-joined-spec =
-    tie.close
-    (tie.spec
-    slice-aggregate-join
-    slice-aggregate-join-2
-    join-requires
-    returns
-    array-share-prefix-update
-    slice-aggregate-write-from
-    array-share-prefix-id
-    slice-aggregate-write-from-2
-    write-from-requires
-    same-length
-    returns-2)
+write-joined-spec = tie.close (tie.spec (λ c. search needs) (λ c. search needs) (λ c κs. search needs) returns
+    (λ c. update-inside (c .before .before .before)) slice-aggregate-write-from (λ c. id-inside (c .before .before .before .before))
+    slice-aggregate-write-from-2 (λ c κs. search needs) (λ c. search needs) returns-2)

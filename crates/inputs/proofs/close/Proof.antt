@@ -1,10 +1,5 @@
 -- `inputs::close` meets its contract: nothing is left to answer, or the newline that the last line lacks is fed. Assumes nothing.
-use borrow.Author.Needs.{needs}
-use borrow.Author.Tests.{eq-eqb, ne-eqb}
-use mathlib.Core.Path.{_≡_}
-use mathlib.Core.Bool.{true}
-use mathlib.Core.List.{List, [], _∷_}
-use Prim.Native.Nat.{ℕ}
+use Rattle.laws.proofs.Library.{needs, eq-eqb, ne-eqb, _≡_, true, List, [], _∷_, ℕ}
 use Rattle.inputs.specs.declared.Trace.{Trace}
 use Rattle.inputs.specs.declared.Fed.{Fed}
 use Rattle.inputs.specs.Pieces.{fed, fedCommands, fedOut, closed, closedCommands, closedOut}
@@ -26,18 +21,6 @@ module _ (s : Trace) (commands out : List ℕ) where
 returns : tie.Need-returns
 returns c = let g = c .before .before .before .args in closes-whole (g .trace) (g .commands .now) (g .out .now) (c .if1 .taken)
 
-slice-aggregate-feed : tie.Need-slice-aggregate-feed
-slice-aggregate-feed c = search needs
-
-feed-requires : tie.Need-feed-requires
-feed-requires c κs = search needs
-
-same-length : tie.Need-same-length
-same-length c = search needs
-
-same-length-2 : tie.Need-same-length-2
-same-length-2 c = search needs
-
 returns-2 : tie.Need-returns-2
 returns-2 c =
     let f = c .before .before .before .before in
@@ -46,4 +29,4 @@ returns-2 c =
     closes-last (g .trace) (g .commands .now) (g .out .now) (e .if1 .left) (f .feed .result) _ _ (f .feed .ensures .0) (f .feed .ensures .1) (f .feed .ensures .2)
 
 pub close-spec : {M : Type 1} → statement M
-close-spec = tie.close (tie.spec returns slice-aggregate-feed feed-requires same-length same-length-2 returns-2)
+close-spec = tie.close (tie.spec returns (λ c. search needs) (λ c κs. search needs) (λ c. search needs) (λ c. search needs) returns-2)

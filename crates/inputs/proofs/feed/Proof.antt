@@ -1,13 +1,7 @@
 -- `inputs::feed` meets its contract: with room for a command and a line for each byte, what gathering, running and printing leave is handed from the
 -- one to the next (`fed-all`); without it nothing is touched. Assumes nothing.
-use borrow.Author.Needs.{needs}
-use mathlib.Core.Path.{_≡_, refl, sym, _∙_}
-use mathlib.Core.Bool.{Bool, true, false, not}
-use mathlib.Core.List.{List, _++_}
-use native.Mathlib.Omega.{arith}
-use Prim.Native.Nat.{ℕ, _*_, _≤_}
-use lib.ListN.{length, take, drop, length-append, length-take}
-use lib.Seq.{length-take-le}
+use Rattle.laws.proofs.Library.{needs, _≡_, refl, sym, _∙_, Bool, true, false, not, List, _++_, arith, ℕ, _*_, _≤_, length, take, drop, length-append}
+use Rattle.laws.proofs.Library.{length-take, length-take-le}
 use Rattle.laws.proofs.Tests.{no}
 use Rattle.inputs.proofs.Feeds.{fed-none, fed-all, gathered-is, room-is}
 use Rattle.inputs.proofs.feed.Statement.{statement}
@@ -25,16 +19,10 @@ granted false b e n = absurd (no (sym n))
 whole-has : (k : ℕ) (d b : List ℕ) → k ≤ length b → length d ≡ length (take k b) → k ≤ length (d ++ drop k b)
 whole-has k d b h e = rw length-append (omega (arith, e, length-take k b, h))
 
-has-room-requires : tie.Need-has-room-requires
-has-room-requires c κs = search needs
-
 returns : tie.Need-returns
 returns c =
     let g = c .before .before .before .before .before .args in
     fed-none (g .trace) (g .piece .now) (g .commands .now) (g .out .now) (refused _ _ (c .before .has-room .ensures) (c .if1 .taken))
-
-gather-requires : tie.Need-gather-requires
-gather-requires c κs = search needs
 
 mul-end : tie.Need-mul-end
 mul-end c =
@@ -66,9 +54,6 @@ slice-aggregate-run c =
     let ends = gathered-is (g .trace) (g .piece .now) (g .commands .now) (g .out .now) (room .0) (l .gather .result) (l .gather .ensures .0) .1 in
     sym (length-take-le (3 * l .gather .result .count) (l .gather .last .1 .1 .0) (omega (arith, ends, l .gather .kept .1 .1 .0)))
 
-run-requires : tie.Need-run-requires
-run-requires c κs = search needs
-
 slice-reshare-prefix-print : tie.Need-slice-reshare-prefix-print
 slice-reshare-prefix-print c =
     let r = c .before .before in
@@ -90,9 +75,6 @@ slice-aggregate-print c =
     sym (length-take-le (3 * l .gather .result .count) (r .run .last .0 ++ drop (3 * l .gather .result .count) (l .gather .last .1 .1 .0))
     (whole-has (3 * l .gather .result .count) (r .run .last .0) (l .gather .last .1 .1 .0) (omega (arith, ends, l .gather .kept .1 .1 .0)) (r .run .kept .0)))
 
-print-requires : tie.Need-print-requires
-print-requires c κs = search needs
-
 sub-t29 : tie.Need-sub-t29
 sub-t29 c =
     let p = c .before .before .before in
@@ -100,12 +82,6 @@ sub-t29 c =
     let l = r .before .before .before .before .before in
     let e = l .before .before .before .before in
     room-is _ _ _ _ (granted _ _ (e .before .has-room .ensures) (e .if1 .left)) .2
-
-same-length : tie.Need-same-length
-same-length c = search needs
-
-same-length-2 : tie.Need-same-length-2
-same-length-2 c = search needs
 
 returns-2 : tie.Need-returns-2
 returns-2 c =
@@ -119,20 +95,6 @@ returns-2 c =
     (r .run .ensures .0) (r .run .ensures .1) (p .print .ensures .0) (p .print .ensures .1)
 
 pub feed-spec : {M : Type 1} → statement M
-feed-spec =
-    tie.close
-    (tie.spec
-    has-room-requires
-    returns
-    gather-requires
-    mul-end
-    slice-relend-prefix-run
-    slice-aggregate-run
-    run-requires
-    slice-reshare-prefix-print
-    slice-aggregate-print
-    print-requires
-    sub-t29
-    same-length
-    same-length-2
+feed-spec = tie.close (tie.spec (λ c κs. search needs) returns (λ c κs. search needs) mul-end slice-relend-prefix-run slice-aggregate-run
+    (λ c κs. search needs) slice-reshare-prefix-print slice-aggregate-print (λ c κs. search needs) sub-t29 (λ c. search needs) (λ c. search needs)
     returns-2)

@@ -1,8 +1,5 @@
 -- `inputs::has_room` meets its contract: each test is one of the definition's. Assumes nothing.
-use mathlib.Core.Path.{_≡_, refl}
-use borrow.Author.Tests.{le-leb, lt-leb}
-use native.Mathlib.Omega.{arith}
-use Prim.Native.Nat.{_*_}
+use Rattle.laws.proofs.Library.{_≡_, refl, le-leb, lt-leb, arith, _*_}
 use Rattle.inputs.proofs.has_room.Statement.{statement}
 use Rattle.inputs.proofs.has_room.Tie as tie
 

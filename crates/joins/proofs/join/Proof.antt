@@ -1,11 +1,6 @@
 -- `joins::join` meets its contract: what the two are refused for comes first, and two that may meet are lawful, so they are merged.
 -- Assumes nothing.
-use mathlib.Core.Path.{_≡_, refl, sym, ap, _∙_}
-use mathlib.Core.Bool.{Bool, true, false}
-use mathlib.Core.List.{List, [], _∷_}
-use Prim.Native.Nat.{ℕ}
-use native.Mathlib.Omega.{arith}
-use borrow.Author.Needs.{needs}
+use Rattle.laws.proofs.Library.{_≡_, refl, sym, ap, _∙_, Bool, true, false, List, [], _∷_, ℕ, arith, needs}
 use Rattle.rules.specs.Limits.{narrow}
 use Rattle.rules.specs.Stamps.{join}
 use Rattle.rules.specs.Stored.{held, isStored, unlawful, blank}
@@ -66,18 +61,6 @@ module _ (a b : Record) (m : Answer) (e : m ≡ first (meeting narrow a b [])) w
   unfolding more
   merges g t f = f ∙ sym (joined-then t)
 
-meet-requires : tie.Need-meet-requires
-meet-requires c κs = search needs
-
-enum-known-m : tie.Need-enum-known-m
-enum-known-m c = search needs
-
-refused-requires : tie.Need-refused-requires
-refused-requires c κs = search needs
-
-enum-told : tie.Need-enum-told
-enum-told c = search needs
-
 merged-requires : tie.Need-merged-requires
 merged-requires c κs =
     let m = c .before .before in
@@ -96,4 +79,4 @@ returns-2 c =
     (c .before .enum-told .given .1) (c .merged .ensures)
 
 pub join-spec : {M : Type 1} → statement M
-join-spec = tie.close (tie.spec meet-requires enum-known-m refused-requires enum-told merged-requires returns returns-2)
+join-spec = tie.close (tie.spec (λ c κs. search needs) (λ c. search needs) (λ c κs. search needs) (λ c. search needs) merged-requires returns returns-2)

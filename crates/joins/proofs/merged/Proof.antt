@@ -1,11 +1,6 @@
 -- `joins::merged` meets its contract: the first words of both buffers are those of the join, and its record holds them where a name has room.
 -- Assumes nothing.
-use mathlib.Core.Path.{_≡_, _∙_}
-use mathlib.Core.List.{List}
-use Prim.Native.Nat.{ℕ}
-use native.Mathlib.Omega.{arith}
-use lib.ListN.{take, replicate}
-use borrow.Author.Needs.{needs}
+use Rattle.laws.proofs.Library.{_≡_, _∙_, List, ℕ, arith, take, replicate, needs}
 use Rattle.rules.specs.Stamps.{Stamp, join}
 use Rattle.rules.specs.Stored.{held}
 use Rattle.unions.specs.Unions.{joinedCounts, joinedUpdateIn, joinedIdIn}
@@ -55,46 +50,16 @@ module _ (c : tie.After-join) where
       s : j .counted4 .result .now ≡ take (start .args .t2 .id .count) (start .args .t2 .id .words)
       s = j .counted4 .ensures .1
 
-counted-requires : tie.Need-counted-requires
-counted-requires c κs = search needs
-
-counted-requires-2 : tie.Need-counted-requires-2
-counted-requires-2 c κs = search needs
-
-counted-requires-3 : tie.Need-counted-requires-3
-counted-requires-3 c κs = search needs
-
-counted-requires-4 : tie.Need-counted-requires-4
-counted-requires-4 c κs = search needs
-
-slice-aggregate-join : tie.Need-slice-aggregate-join
-slice-aggregate-join c = search needs
-
-slice-aggregate-join-2 : tie.Need-slice-aggregate-join-2
-slice-aggregate-join-2 c = search needs
-
-join-requires : tie.Need-join-requires
-join-requires c κs = search needs
-
-refused-requires : tie.Need-refused-requires
-refused-requires c κs = search needs
-
 returns : tie.Need-returns
 returns c =
     let j = c .before .before .before .before .before in
     too-many (end j) (j .join .result) _ _ (tells j) (c .refused .result) (omega (arith, c .before .if1 .taken, tells j .counts)) (c .refused .ensures)
-
-slice-aggregate-narrowed : tie.Need-slice-aggregate-narrowed
-slice-aggregate-narrowed c = search needs
 
 narrowed-requires : tie.Need-narrowed-requires
 narrowed-requires c κs =
     let j = c .before .before .before .before .before in
     let t = tells j in
     (omega (arith, t .counts, c .before .if1 .left), omega (arith, t .counts, t .fits, t .updateRoom))
-
-slice-aggregate-narrowed-2 : tie.Need-slice-aggregate-narrowed-2
-slice-aggregate-narrowed-2 c = search needs
 
 narrowed-requires-2 : tie.Need-narrowed-requires-2
 narrowed-requires-2 c κs =
@@ -112,20 +77,6 @@ returns-2 c =
     (d .narrowed .ensures) (c .narrowed2 .ensures)
 
 pub merged-spec : {M : Type 1} → statement M
-merged-spec =
-    tie.close
-    (tie.spec
-    counted-requires
-    counted-requires-2
-    counted-requires-3
-    counted-requires-4
-    slice-aggregate-join
-    slice-aggregate-join-2
-    join-requires
-    refused-requires
-    returns
-    slice-aggregate-narrowed
-    narrowed-requires
-    slice-aggregate-narrowed-2
-    narrowed-requires-2
-    returns-2)
+merged-spec = tie.close (tie.spec (λ c κs. search needs) (λ c κs. search needs) (λ c κs. search needs) (λ c κs. search needs) (λ c. search needs)
+    (λ c. search needs) (λ c κs. search needs) (λ c κs. search needs) returns (λ c. search needs) narrowed-requires (λ c. search needs)
+    narrowed-requires-2 returns-2)

@@ -1,11 +1,6 @@
 -- `joins::narrowed` meets its contract: the words copied, with those from index i on, are all of them. Assumes nothing.
-use mathlib.Core.Path.{_≡_, refl, sym, ap, _∙_}
-use mathlib.Core.List.{List}
-use Prim.Native.Nat.{ℕ, _+_, _-_, _≤_, _<_}
-use native.Mathlib.Omega.{arith}
-use borrow.Author.Needs.{needs}
-use lib.ListN.{length, take, drop, getD, set, replicate, drop-of-length-le}
-use lib.Seq.{sets, getD-take, length-take-le}
+use Rattle.laws.proofs.Library.{_≡_, refl, sym, ap, _∙_, List, ℕ, _+_, _-_, _≤_, _<_, arith, needs, length, take, drop, getD, set, replicate}
+use Rattle.laws.proofs.Library.{drop-of-length-le, sets, getD-take, length-take-le}
 use Rattle.rules.specs.Limits.{narrow}
 use Rattle.unions.proofs.Stores.{copy-step}
 use Rattle.joins.specs.Buffers.{words}
@@ -29,27 +24,6 @@ more w out z i c h k e =
 end : (w out z : List ℕ) (i c : ℕ) → c ≤ i → c ≤ length w → sets out i (drop i (take c w)) ≡ z → out ≡ z
 end w out z i c h k e = rw (drop-of-length-le (take c w) {i = i} (omega (arith, length-take-le c w k))) at e
 
-loop-holds : tie.Need-loop-holds Inv-loop μ-loop
-loop-holds c = (search needs, refl, refl)
-
-mul-out : tie.Need-mul-out Inv-loop μ-loop
-mul-out c = search needs
-
-shared-slice-read-out : tie.Need-shared-slice-read-out Inv-loop μ-loop
-shared-slice-read-out c = search needs
-
-mul-out-2 : tie.Need-mul-out-2 Inv-loop μ-loop
-mul-out-2 c = search needs
-
-element-write-out : tie.Need-element-write-out Inv-loop μ-loop
-element-write-out c = search needs
-
-add-i : tie.Need-add-i Inv-loop μ-loop
-add-i c = search needs
-
-loop-less : tie.Need-loop-less Inv-loop μ-loop
-loop-less c = search needs
-
 loop-again : tie.Need-loop-again Inv-loop μ-loop
 loop-again c =
     let l = c .before .before in
@@ -69,17 +43,5 @@ returns c =
     λ i. record { count = p i; words = q i }
 
 pub narrowed-spec : {M : Type 1} → statement M
-narrowed-spec =
-    tie.close
-    (tie.spec
-    Inv-loop
-    μ-loop
-    loop-holds
-    mul-out
-    shared-slice-read-out
-    mul-out-2
-    element-write-out
-    add-i
-    loop-less
-    loop-again
-    returns)
+narrowed-spec = tie.close (tie.spec Inv-loop μ-loop (λ c. (search needs, refl, refl)) (λ c. search needs) (λ c. search needs) (λ c. search needs)
+    (λ c. search needs) (λ c. search needs) (λ c. search needs) loop-again returns)

@@ -1,5 +1,5 @@
 -- `lines::begin` meets its contract: its record is the definition's. Assumes nothing.
-use mathlib.Core.Path.{refl}
+use Rattle.laws.proofs.Library.{refl}
 use Rattle.lines.specs.Commands.{begun}
 use Rattle.lines.proofs.begin.Statement.{statement}
 use Rattle.lines.proofs.begin.Tie as tie

@@ -1,11 +1,6 @@
 -- `lines::gather` meets its contract. The loop's invariant: what the bytes to come make of the line and the buffer is what all of them make
 -- of those at the start. The measure is what is left. Assumes nothing.
-use borrow.Author.Needs.{needs}
-use mathlib.Core.Path.{_≡_, refl, sym, ap, _∙_}
-use mathlib.Core.List.{List}
-use Prim.Native.Nat.{ℕ, _-_, _≤_}
-use native.Mathlib.Omega.{arith}
-use lib.ListN.{length, drop}
+use Rattle.laws.proofs.Library.{needs, _≡_, refl, sym, ap, _∙_, List, ℕ, _-_, _≤_, arith, length, drop}
 use Rattle.lines.specs.declared.Gathered.{Gathered}
 use Rattle.lines.proofs.Turns.{gathers, gathers-line, gathers-byte, gathers-end, gathers-all, gathers-none}
 use Rattle.lines.proofs.gather.Statement.{statement}
@@ -22,33 +17,6 @@ abbrev μ-loop : tie.MeasureT-loop
 returns : tie.Need-returns Inv-loop μ-loop
 returns c = let g = c .before .before .before .args in gathers-none (g .line) (g .piece .now) (g .commands .now) (omega arith)
 
-loop-holds : tie.Need-loop-holds Inv-loop μ-loop
-loop-holds c = (search needs, search needs, refl, refl)
-
-shared-slice-read-x : tie.Need-shared-slice-read-x Inv-loop μ-loop
-shared-slice-read-x c = search needs
-
-add-i : tie.Need-add-i Inv-loop μ-loop
-add-i c = search needs
-
-mul-store : tie.Need-mul-store Inv-loop μ-loop
-mul-store c = search needs
-
-parse-requires : tie.Need-parse-requires Inv-loop μ-loop
-parse-requires c κs = search needs
-
-store-requires : tie.Need-store-requires Inv-loop μ-loop
-store-requires c κs = search needs
-
-add-count : tie.Need-add-count Inv-loop μ-loop
-add-count c = search needs
-
-begin-requires : tie.Need-begin-requires Inv-loop μ-loop
-begin-requires c κs = search needs
-
-loop-less : tie.Need-loop-less Inv-loop μ-loop
-loop-less c = search needs
-
 loop-again : tie.Need-loop-again Inv-loop μ-loop
 loop-again c =
     let s = c .before .before .before in
@@ -64,12 +32,6 @@ loop-again c =
           ∙ l .loop .inv .3,
     )
 
-push-requires : tie.Need-push-requires Inv-loop μ-loop
-push-requires c κs = search needs
-
-loop-less-2 : tie.Need-loop-less-2 Inv-loop μ-loop
-loop-less-2 c = search needs
-
 loop-again-2 : tie.Need-loop-again-2 Inv-loop μ-loop
 loop-again-2 c =
     let i = c .before in
@@ -83,9 +45,6 @@ loop-again-2 c =
           ∙ l .loop .inv .3,
     )
 
-same-length : tie.Need-same-length Inv-loop μ-loop
-same-length c = search needs
-
 returns-2 : tie.Need-returns-2 Inv-loop μ-loop
 returns-2 c =
     let l = c .before in
@@ -97,24 +56,6 @@ returns-2 c =
     (ap (λ (r : Gathered × List ℕ). r .0) all, ap (λ (r : Gathered × List ℕ). r .1) all)
 
 pub gather-spec : {M : Type 1} → statement M
-gather-spec =
-    tie.close
-    (tie.spec
-    Inv-loop
-    μ-loop
-    returns
-    loop-holds
-    shared-slice-read-x
-    add-i
-    mul-store
-    parse-requires
-    store-requires
-    add-count
-    begin-requires
-    loop-less
-    loop-again
-    push-requires
-    loop-less-2
-    loop-again-2
-    same-length
-    returns-2)
+gather-spec = tie.close (tie.spec Inv-loop μ-loop returns (λ c. (search needs, search needs, refl, refl)) (λ c. search needs) (λ c. search needs)
+    (λ c. search needs) (λ c κs. search needs) (λ c κs. search needs) (λ c. search needs) (λ c κs. search needs) (λ c. search needs) loop-again
+    (λ c κs. search needs) (λ c. search needs) loop-again-2 (λ c. search needs) returns-2)

@@ -1,11 +1,7 @@
 -- `lines::parse` meets its contract: eight bytes kept say nothing, as no line so long reads. Assumes nothing.
-use mathlib.Core.Path.{sym, ap, _∙_}
-use Prim.Native.Nat.{ℕ}
-use native.Mathlib.Omega.{arith}
-use lib.ListN.{take, length-take}
+use Rattle.laws.proofs.Library.{sym, ap, _∙_, ℕ, arith, take, length-take, needs, length-unmapped}
 use Rattle.lines.specs.Commands.{commandOf, parsed}
 use Rattle.lines.proofs.Reading.{long-unreadable}
-use borrow.Author.Needs.{needs, length-unmapped}
 use Rattle.lines.proofs.parse.Statement.{statement}
 use Rattle.lines.proofs.parse.Tie as tie
 
@@ -21,15 +17,9 @@ slice-aggregate-command c =
     let h = length-unmapped ℕ (g .args .line .bytes) 8 (g .good .0 .1 .1 .1 .0 .1 .0 .1) in
     simp length-take (omega arith)
 
-command-requires : tie.Need-command-requires
-command-requires c κs = search needs
-
 returns : tie.Need-returns
 unfolding parsed
 returns c = c .command .ensures
-
-unreadable-requires : tie.Need-unreadable-requires
-unreadable-requires c κs = search needs
 
 returns-2 : tie.Need-returns-2
 unfolding parsed commandOf
@@ -40,12 +30,4 @@ returns-2 c =
     ∙ sym (ap commandOf (long-unreadable (take (g .args .line .len) (g .args .line .bytes)) (simp length-take (omega arith))))
 
 pub parse-spec : {M : Type 1} → statement M
-parse-spec =
-    tie.close
-    (tie.spec
-    array-share-prefix-bytes
-    slice-aggregate-command
-    command-requires
-    returns
-    unreadable-requires
-    returns-2)
+parse-spec = tie.close (tie.spec array-share-prefix-bytes slice-aggregate-command (λ c κs. search needs) returns (λ c κs. search needs) returns-2)

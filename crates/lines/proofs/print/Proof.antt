@@ -1,11 +1,6 @@
 -- `lines::print` meets its contract. The loop's invariant: the answers to come, written from here on, are all answers written from the start;
 -- and each takes at most 11 bytes. The measure is how many are to come. Assumes nothing.
-use borrow.Author.Needs.{needs}
-use mathlib.Core.Path.{_≡_, refl, sym, ap, _∙_}
-use mathlib.Core.List.{List}
-use Prim.Native.Nat.{ℕ, _+_, _*_, _-_, _/_, _≤_}
-use native.Mathlib.Omega.{arith}
-use lib.ListN.{length, getD}
+use Rattle.laws.proofs.Library.{needs, _≡_, refl, sym, ap, _∙_, List, ℕ, _+_, _*_, _-_, _/_, _≤_, arith, length, getD}
 use Rattle.lines.specs.declared.Printed.{Printed}
 use Rattle.lines.specs.Answers.{answerText}
 use Rattle.lines.specs.Inner.{PutAt}
@@ -25,36 +20,6 @@ abbrev μ-loop : tie.MeasureT-loop
 returns : tie.Need-returns Inv-loop μ-loop
 returns c = let g = c .before .before .before .args in writes-short (g .commands .now) (g .out .now) (omega (arith, c .if1 .taken))
 
-loop-holds : tie.Need-loop-holds Inv-loop μ-loop
-loop-holds c = (refl, search needs, search needs, refl, refl)
-
-mul-i : tie.Need-mul-i Inv-loop μ-loop
-mul-i c = search needs
-
-mul-put-answer : tie.Need-mul-put-answer Inv-loop μ-loop
-mul-put-answer c = search needs
-
-shared-slice-read-put-answer : tie.Need-shared-slice-read-put-answer Inv-loop μ-loop
-shared-slice-read-put-answer c = search needs
-
-add-put-answer : tie.Need-add-put-answer Inv-loop μ-loop
-add-put-answer c = search needs
-
-mul-put-answer-2 : tie.Need-mul-put-answer-2 Inv-loop μ-loop
-mul-put-answer-2 c = search needs
-
-shared-slice-read-put-answer-2 : tie.Need-shared-slice-read-put-answer-2 Inv-loop μ-loop
-shared-slice-read-put-answer-2 c = search needs
-
-put-answer-requires : tie.Need-put-answer-requires Inv-loop μ-loop
-put-answer-requires c κs = search needs
-
-add-k : tie.Need-add-k Inv-loop μ-loop
-add-k c = search needs
-
-loop-less : tie.Need-loop-less Inv-loop μ-loop
-loop-less c = search needs
-
 loop-again : tie.Need-loop-again Inv-loop μ-loop
 loop-again c =
     let p = c .before .before in
@@ -73,9 +38,6 @@ loop-again c =
           ∙ (rw (answers-more (g .commands .now) n k (omega arith)) at (l .loop .inv .4)),
     )
 
-same-length : tie.Need-same-length Inv-loop μ-loop
-same-length c = search needs
-
 returns-2 : tie.Need-returns-2 Inv-loop μ-loop
 returns-2 c =
     let l = c .before in
@@ -87,22 +49,6 @@ returns-2 c =
     (ap (λ (r : Printed × List ℕ). r .0) all, ap (λ (r : Printed × List ℕ). r .1) all)
 
 pub print-spec : {M : Type 1} → statement M
-print-spec =
-    tie.close
-    (tie.spec
-    Inv-loop
-    μ-loop
-    returns
-    loop-holds
-    mul-i
-    mul-put-answer
-    shared-slice-read-put-answer
-    add-put-answer
-    mul-put-answer-2
-    shared-slice-read-put-answer-2
-    put-answer-requires
-    add-k
-    loop-less
-    loop-again
-    same-length
-    returns-2)
+print-spec = tie.close (tie.spec Inv-loop μ-loop returns (λ c. (refl, search needs, search needs, refl, refl)) (λ c. search needs) (λ c. search needs)
+    (λ c. search needs) (λ c. search needs) (λ c. search needs) (λ c. search needs) (λ c κs. search needs) (λ c. search needs) (λ c. search needs)
+    loop-again (λ c. search needs) returns-2)

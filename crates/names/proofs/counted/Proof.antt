@@ -1,8 +1,5 @@
 -- `names::counted` meets its contract: no list has more than it has. Assumes nothing.
-use borrow.Author.Needs.{needs}
-use mathlib.Core.Path.{refl, sym}
-use native.Mathlib.Omega.{arith}
-use lib.Seq.{take-all, length-take-le}
+use Rattle.laws.proofs.Library.{needs, refl, sym, arith, take-all, length-take-le}
 use Rattle.names.proofs.counted.Statement.{statement}
 use Rattle.names.proofs.counted.Tie as tie
 
@@ -14,8 +11,5 @@ returns c =
 slice-aggregate-result : tie.Need-slice-aggregate-result
 slice-aggregate-result c = let g = c .before .before .args in sym (length-take-le (g .c) (g .w .now) (omega arith))
 
-returns-2 : tie.Need-returns-2
-returns-2 c = search needs
-
 pub counted-spec : {M : Type 1} → statement M
-counted-spec = tie.close (tie.spec returns slice-aggregate-result returns-2)
+counted-spec = tie.close (tie.spec returns slice-aggregate-result (λ c. search needs))

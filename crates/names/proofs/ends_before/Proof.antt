@@ -1,11 +1,5 @@
 -- `ends_before` says whether the string of a comes before that of b: `begins-less`. Assumes nothing.
-use borrow.Author.Needs.{needs}
-use borrow.Author.Tests.{lt-ltb, le-ltb}
-use mathlib.Core.Path.{_≡_, ap, _∙_}
-use mathlib.Core.Bool.{Bool, true, false, not, _&&_}
-use native.Mathlib.Omega.{arith}
-use Prim.Native.Nat.{ℕ}
-use lib.Dec.{ltb}
+use Rattle.laws.proofs.Library.{needs, lt-ltb, le-ltb, _≡_, ap, _∙_, Bool, true, false, not, _&&_, arith, ℕ, ltb}
 use Rattle.rules.specs.Limits.{narrow}
 use Rattle.rules.specs.Strings.{less, strOf, isWord}
 use Rattle.strings.specs.Words.{begins}
@@ -17,9 +11,6 @@ use Rattle.names.proofs.ends_before.Tie as tie
 ordered : (a b : ℕ) (x : Bool) → isWord (narrow .digits) a ≡ true → isWord (narrow .digits) b ≡ true → ltb a b ≡ x
     → (x && not (begins a b)) ≡ less (strOf a) (strOf b)
 ordered a b x ha hb e = rw e at (begins-less (narrow .digits) (omega arith) a b ha hb)
-
-begins-requires : tie.Need-begins-requires
-begins-requires c κs = search needs
 
 returns : tie.Need-returns
 returns c =
@@ -33,4 +24,4 @@ returns-2 c =
     e ∙ ordered (g .args .a) (g .args .b) false (g .pre .0) (g .pre .1) e
 
 pub ends-before-spec : {M : Type 1} → statement M
-ends-before-spec = tie.close (tie.spec begins-requires returns returns-2)
+ends-before-spec = tie.close (tie.spec (λ c κs. search needs) returns returns-2)

@@ -1,13 +1,6 @@
 -- `names::grow` meets its contract: in each word's place come those of its string with a 0 more and with a 1 more, as far as there is room.
 -- Assumes nothing.
-use borrow.Author.Needs.{needs}
-use mathlib.Core.Path.{_≡_, refl, sym, ap, _∙_}
-use mathlib.Core.List.{List}
-use native.Mathlib.Nat.{add-mod}
-use native.Mathlib.Omega.{arith}
-use Prim.Native.Nat.{ℕ, _+_, _*_, _-_, _%_, _^_, _≤_}
-use lib.ListN.{length, getD, take}
-use lib.Seq.{take-all}
+use Rattle.laws.proofs.Library.{needs, _≡_, refl, sym, ap, _∙_, List, add-mod, arith, ℕ, _+_, _*_, _-_, _%_, _^_, _≤_, length, getD, take, take-all}
 use Rattle.names.specs.Lent.{longer, grownIn}
 use Rattle.names.proofs.Grown.{grown-step, take-few}
 use Rattle.names.proofs.grow.Statement.{statement}
@@ -34,48 +27,9 @@ one-is s t r e f = f ∙ ap (λ (x : ℕ). (x + (1 * 2 ^ (63 - s % 64)) % 2 ^ 64
 few : (c : tie.After-counted Inv-loop μ-loop) → length (c .counted .result .now) ≤ 16
 few c = let e : length (c .counted .result .now) ≡ length (take 16 (c .before .before .args .id .now)) = ap length (c .counted .ensures .1) in omega (arith, e, take-few 16 (c .before .before .args .id .now))
 
-counted-requires : tie.Need-counted-requires Inv-loop μ-loop
-counted-requires c κs = search needs
-
 loop-holds : tie.Need-loop-holds Inv-loop μ-loop
 unfolding grownIn
 loop-holds c = (search needs, few c, refl, refl)
-
-mul-s : tie.Need-mul-s Inv-loop μ-loop
-mul-s c = search needs
-
-shared-slice-read-s : tie.Need-shared-slice-read-s Inv-loop μ-loop
-shared-slice-read-s c = search needs
-
-wrapping-add-u64-requires : tie.Need-wrapping-add-u64-requires Inv-loop μ-loop
-wrapping-add-u64-requires c κs = search needs
-
-mul-zero : tie.Need-mul-zero Inv-loop μ-loop
-mul-zero c = search needs
-
-element-write-zero : tie.Need-element-write-zero Inv-loop μ-loop
-element-write-zero c = search needs
-
-sub-wrapping-add-u64 : tie.Need-sub-wrapping-add-u64 Inv-loop μ-loop
-sub-wrapping-add-u64 c = search needs
-
-shl-wrapping-add-u64 : tie.Need-shl-wrapping-add-u64 Inv-loop μ-loop
-shl-wrapping-add-u64 c = search needs
-
-wrapping-add-u64-requires-2 : tie.Need-wrapping-add-u64-requires-2 Inv-loop μ-loop
-wrapping-add-u64-requires-2 c κs = search needs
-
-mul-one : tie.Need-mul-one Inv-loop μ-loop
-mul-one c = search needs
-
-element-write-one : tie.Need-element-write-one Inv-loop μ-loop
-element-write-one c = search needs
-
-add-k : tie.Need-add-k Inv-loop μ-loop
-add-k c = search needs
-
-loop-less : tie.Need-loop-less Inv-loop μ-loop
-loop-less c = search needs
 
 loop-again : tie.Need-loop-again Inv-loop μ-loop
 loop-again c =
@@ -101,24 +55,6 @@ returns c =
     )
 
 pub grow-spec : {M : Type 1} → statement M
-grow-spec =
-    tie.close
-    (tie.spec
-    Inv-loop
-    μ-loop
-    counted-requires
-    loop-holds
-    mul-s
-    shared-slice-read-s
-    wrapping-add-u64-requires
-    mul-zero
-    element-write-zero
-    sub-wrapping-add-u64
-    shl-wrapping-add-u64
-    wrapping-add-u64-requires-2
-    mul-one
-    element-write-one
-    add-k
-    loop-less
-    loop-again
-    returns)
+grow-spec = tie.close (tie.spec Inv-loop μ-loop (λ c κs. search needs) loop-holds (λ c. search needs) (λ c. search needs) (λ c κs. search needs)
+    (λ c. search needs) (λ c. search needs) (λ c. search needs) (λ c. search needs) (λ c κs. search needs) (λ c. search needs) (λ c. search needs)
+    (λ c. search needs) (λ c. search needs) loop-again returns)

@@ -1,13 +1,6 @@
 -- `is_name_in` says whether the record of these words is the stored shape of a name: it asks the tests of `stored-test` in their order, and
 -- a record of fewer or more words is none. Assumes nothing.
-use borrow.Author.Needs.{needs}
-use mathlib.Core.Path.{_≡_, sym, ap, _∙_}
-use mathlib.Core.Bool.{Bool, true, false, _&&_}
-use native.Mathlib.Omega.{arith}
-use Prim.Native.Nat.{_≤_}
-use borrow.Author.Tests.{le-leb, lt-leb}
-use lib.Dec.{eqb}
-use lib.ListN.{length}
+use Rattle.laws.proofs.Library.{needs, _≡_, sym, ap, _∙_, Bool, true, false, _&&_, arith, _≤_, le-leb, lt-leb, eqb, length}
 use Rattle.rules.specs.Limits.{narrow}
 use Rattle.rules.specs.Strings.{isWord}
 use Rattle.rules.specs.Names.{all, rising}
@@ -50,12 +43,6 @@ returns-2 c = none (told (c .before .before .before)) (omega arith) (omega arith
 returns-3 : tie.Need-returns-3
 returns-3 c = many (told (c .before .before .before .before)) (omega arith) (omega arith) (omega arith)
 
-rises-requires : tie.Need-rises-requires
-rises-requires c κs = search needs
-
-is-zero-from-requires : tie.Need-is-zero-from-requires
-is-zero-from-requires c κs = search needs
-
 returns-4 : tie.Need-returns-4
 returns-4 c =
     let r = c .before .before in
@@ -68,4 +55,4 @@ returns-5 c =
     within (told (r .before .before .before .before .before)) false (omega arith) (omega arith) (omega arith) (sym (r .rises .ensures) ∙ c .if4 .left)
 
 pub is-name-in-spec : {M : Type 1} → statement M
-is-name-in-spec = tie.close (tie.spec returns returns-2 returns-3 rises-requires is-zero-from-requires returns-4 returns-5)
+is-name-in-spec = tie.close (tie.spec returns returns-2 returns-3 (λ c κs. search needs) (λ c κs. search needs) returns-4 returns-5)

@@ -1,13 +1,7 @@
 -- `is_zero_from` says whether all words from an index on are 0: a bit that is set in one of them stays set. Assumes nothing.
-use borrow.Author.Needs.{needs}
-use mathlib.Core.Path.{_≡_, refl, sym, ap, _∙_}
-use mathlib.Core.Bool.{Bool, _&&_, and-assoc, and-true}
-use native.Mathlib.Omega.{arith}
-use Prim.Native.Nat.{ℕ, _+_, _-_}
-use borrow.Author.Tests.{eqb-true, eq-eqb}
+use Rattle.laws.proofs.Library.{needs, _≡_, refl, sym, ap, _∙_, Bool, _&&_, and-assoc, and-true, arith, ℕ, _+_, _-_, eqb-true, eq-eqb, eqb, length, getD}
+use Rattle.laws.proofs.Library.{drop, drop-of-length-le}
 use lib.Bits.{bitOr, or-add-and, and-le-l, and-le-r}
-use lib.Dec.{eqb}
-use lib.ListN.{length, getD, drop, drop-of-length-le}
 use Rattle.rules.specs.Names.{all}
 use Rattle.laws.proofs.Tests.{iff, and-left, and-right, and-both}
 use Rattle.names.proofs.Laws.{all-cons, all-end, from-cons}
@@ -33,21 +27,6 @@ Inv-loop w c bits₀ i₀ bits i = (eqb bits 0 && all (eqb 0) (drop i w)) ≡ al
 abbrev μ-loop : tie.MeasureT-loop
 μ-loop w c bits₀ i₀ bits i = length w - i
 
-loop-holds : tie.Need-loop-holds Inv-loop μ-loop
-loop-holds c = refl
-
-mul-bits : tie.Need-mul-bits Inv-loop μ-loop
-mul-bits c = search needs
-
-shared-slice-read-bits : tie.Need-shared-slice-read-bits Inv-loop μ-loop
-shared-slice-read-bits c = search needs
-
-add-i : tie.Need-add-i Inv-loop μ-loop
-add-i c = search needs
-
-loop-less : tie.Need-loop-less Inv-loop μ-loop
-loop-less c = search needs
-
 loop-again : tie.Need-loop-again Inv-loop μ-loop
 loop-again c =
     let l = c .before .before in
@@ -69,4 +48,5 @@ returns c =
     ∙ l .loop .inv
 
 pub is-zero-from-spec : {M : Type 1} → statement M
-is-zero-from-spec = tie.close (tie.spec Inv-loop μ-loop loop-holds mul-bits shared-slice-read-bits add-i loop-less loop-again returns)
+is-zero-from-spec = tie.close (tie.spec Inv-loop μ-loop (λ c. refl) (λ c. search needs) (λ c. search needs) (λ c. search needs) (λ c. search needs)
+    loop-again returns)

@@ -1,12 +1,6 @@
 -- `rises` says whether the words are those of strings, and these rise: each is compared with the one before, which is enough (`chain-is`). Assumes nothing.
-use borrow.Author.Needs.{needs}
-use mathlib.Core.Path.{_≡_, refl, sym, ap, ap₂, _∙_}
-use mathlib.Core.Bool.{Bool, true, _&&_, and-false}
-use mathlib.Core.List.{List, _∷_}
-use native.Mathlib.Omega.{arith}
-use Prim.Native.Nat.{ℕ, _+_, _-_, _≤_, _<_}
-use borrow.Author.Tests.{not-true, not-false}
-use lib.ListN.{length, getD, take, drop}
+use Rattle.laws.proofs.Library.{needs, _≡_, refl, sym, ap, ap₂, _∙_, Bool, true, _&&_, and-false, List, _∷_, arith, ℕ, _+_, _-_, _≤_, _<_, not-true}
+use Rattle.laws.proofs.Library.{not-false, length, getD, take, drop}
 use Rattle.rules.specs.Strings.{strOf, isWord}
 use Rattle.rules.specs.Names.{all, rising}
 use Rattle.rules.specs.Stored.{strsIn}
@@ -42,12 +36,6 @@ module _ (g : tie.Start Inv-loop μ-loop) (i : ℕ) where
   str-cons : i < g .args .c → drop i (strsIn record-of) ≡ strOf (getD (g .args .w .now) i 0) ∷ drop (i + 1) (strsIn record-of)
   str-cons l = strs-cons record-of (length (g .args .w .now)) refl i (omega (arith, g .pre))
 
-shared-slice-read-prior : tie.Need-shared-slice-read-prior Inv-loop μ-loop
-shared-slice-read-prior c = search needs
-
-is-word-requires : tie.Need-is-word-requires Inv-loop μ-loop
-is-word-requires c κs = search needs
-
 returns : tie.Need-returns Inv-loop μ-loop
 returns c =
     let g = c .before .before .before .before in
@@ -62,15 +50,6 @@ loop-holds c =
     let w = c .before .is-word in
     let is = sym (w .ensures) ∙ not-false (w .result) (c .if1 .left) in
     (search needs, is, ap₂ _&&_ (sym (all-more (isWord 24) (word-cons g 0 (omega arith)) is)) (chain-start (str-cons g 0 (omega arith))))
-
-mul-s : tie.Need-mul-s Inv-loop μ-loop
-mul-s c = search needs
-
-shared-slice-read-s : tie.Need-shared-slice-read-s Inv-loop μ-loop
-shared-slice-read-s c = search needs
-
-is-word-requires-2 : tie.Need-is-word-requires-2 Inv-loop μ-loop
-is-word-requires-2 c κs = search needs
 
 returns-2 : tie.Need-returns-2 Inv-loop μ-loop
 returns-2 c =
@@ -99,12 +78,6 @@ returns-3 c =
     ∙ and-false words)
     ∙ l .loop .inv .2
 
-add-i : tie.Need-add-i Inv-loop μ-loop
-add-i c = search needs
-
-loop-less : tie.Need-loop-less Inv-loop μ-loop
-loop-less c = search needs
-
 loop-again : tie.Need-loop-again Inv-loop μ-loop
 loop-again c =
     let l = c .before .before .before .before .before .before in
@@ -132,22 +105,5 @@ returns-4 c =
     ∙ l .loop .inv .2
 
 pub rises-spec : {M : Type 1} → statement M
-rises-spec =
-    tie.close
-    (tie.spec
-    Inv-loop
-    μ-loop
-    shared-slice-read-prior
-    is-word-requires
-    returns
-    loop-holds
-    mul-s
-    shared-slice-read-s
-    is-word-requires-2
-    returns-2
-    ends-before-requires
-    returns-3
-    add-i
-    loop-less
-    loop-again
-    returns-4)
+rises-spec = tie.close (tie.spec Inv-loop μ-loop (λ c. search needs) (λ c κs. search needs) returns loop-holds (λ c. search needs) (λ c. search needs)
+    (λ c κs. search needs) returns-2 ends-before-requires returns-3 (λ c. search needs) (λ c. search needs) loop-again returns-4)

@@ -1,10 +1,5 @@
 -- `packed::write` meets its contract: the words of a lawful record fit, and tell the stamp that it holds. Assumes nothing.
-use mathlib.Core.Path.{_≡_, sym, _∙_}
-use mathlib.Core.Bool.{false}
-use mathlib.Core.List.{List}
-use Prim.Native.Nat.{ℕ}
-use borrow.Author.Needs.{needs}
-use lib.Seq.{length-take-le}
+use Rattle.laws.proofs.Library.{_≡_, sym, _∙_, false, List, ℕ, needs, length-take-le}
 use Rattle.rules.specs.Limits.{narrow}
 use Rattle.rules.specs.Stored.{isStored, unlawful}
 use Rattle.rules.specs.Refusals.{first}
@@ -20,9 +15,6 @@ use Rattle.packed.proofs.write.Tie as tie
 not-lawful : (r : Record) (l : List ℕ) → isStored narrow r ≡ false → writtenStamp narrow r l ≡ record { answer = NotWritten Unlawful; out = l }
 unfolding writtenStamp unlawful first wrote
 not-lawful r l e = rw e
-
-is-lawful-requires : tie.Need-is-lawful-requires
-is-lawful-requires c κs = search needs
 
 array-share-prefix-u : tie.Need-array-share-prefix-u
 array-share-prefix-u c =
@@ -54,12 +46,6 @@ slice-aggregate-write-from-2 c =
     let inside = lent-room (r .id .count) (r .id .words) (stored-names narrow r (sym (t .is-lawful .ensures) ∙ f .if1 .taken) .1) in
     sym (length-take-le (r .id .count) (r .id .words) inside)
 
-write-from-requires : tie.Need-write-from-requires
-write-from-requires c κs = search needs
-
-same-length : tie.Need-same-length
-same-length c = search needs
-
 returns : tie.Need-returns
 returns c =
     let w = c .before .before in
@@ -76,15 +62,5 @@ returns-2 c =
     both _ _ (not-lawful (g .r) (g .out .now) (sym (t .is-lawful .ensures) ∙ c .if1 .left))
 
 pub write-spec : {M : Type 1} → statement M
-write-spec =
-    tie.close
-    (tie.spec
-    is-lawful-requires
-    array-share-prefix-u
-    slice-aggregate-write-from
-    array-share-prefix-i
-    slice-aggregate-write-from-2
-    write-from-requires
-    same-length
-    returns
-    returns-2)
+write-spec = tie.close (tie.spec (λ c κs. search needs) array-share-prefix-u slice-aggregate-write-from array-share-prefix-i
+    slice-aggregate-write-from-2 (λ c κs. search needs) (λ c. search needs) returns returns-2)

@@ -1,12 +1,6 @@
 -- `reading::bits_from` meets its contract: of the bits of eight bytes at most seven are lost. Assumes nothing.
-use mathlib.Core.Path.{_≡_, ap, _∙_}
-use mathlib.Core.Bool.{Bool}
-use mathlib.Core.List.{List}
-use Prim.Native.Nat.{ℕ, _+_, _*_, _/_, _%_, _^_, _≤_}
-use native.Mathlib.Omega.{arith}
-use borrow.Author.Needs.{needs}
-use lib.ListN.{length, take, drop, length-drop}
-use lib.Seq.{length-take-le, drop-drop}
+use Rattle.laws.proofs.Library.{_≡_, ap, _∙_, Bool, List, ℕ, _+_, _*_, _/_, _%_, _^_, _≤_, arith, needs, length, take, drop, length-drop, length-take-le}
+use Rattle.laws.proofs.Library.{drop-drop}
 use Rattle.rules.specs.Strings.{field, value}
 use Rattle.rules.specs.Packed.{bitsOf}
 use Rattle.layout.proofs.Bytes.{bits-length}
@@ -25,16 +19,10 @@ shown b pos x h e =
     ∙ part-within 57 (pos % 8) 64 (drop q bs) (omega arith)
     ∙ ap (take 57) (drop-drop (pos % 8) q bs ∙ ap (λ (k : ℕ). drop k bs) (let f : q + pos % 8 ≡ pos = omega arith in f))
 
-eight-requires : tie.Need-eight-requires
-eight-requires c κs = search needs
-
-shl-result : tie.Need-shl-result
-shl-result c = search needs
-
 returns : tie.Need-returns
 returns c =
     let g = c .before .args in
     shown (g .b .now) (g .pos) (c .eight .result) (omega arith) (c .eight .ensures)
 
 pub bits-from-spec : {M : Type 1} → statement M
-bits-from-spec = tie.close (tie.spec eight-requires shl-result returns)
+bits-from-spec = tie.close (tie.spec (λ c κs. search needs) (λ c. search needs) returns)

@@ -1,11 +1,5 @@
 -- `reading::is_after` meets its contract: both tests are those of the claim, each asked where the one before it leaves it open. Assumes nothing.
-use mathlib.Core.Path.{_≡_, refl, ap}
-use mathlib.Core.Bool.{Bool, false, not, _&&_}
-use Prim.Native.Nat.{ℕ, _≤_, _<_}
-use native.Mathlib.Omega.{arith}
-use borrow.Author.Needs.{needs}
-use borrow.Author.Tests.{lt-ltb, le-ltb}
-use lib.Dec.{ltb}
+use Rattle.laws.proofs.Library.{_≡_, refl, ap, Bool, false, not, _&&_, ℕ, _≤_, _<_, arith, needs, lt-ltb, le-ltb, ltb}
 use Rattle.strings.specs.Words.{begins}
 use Rattle.reading.proofs.is_after.Statement.{statement}
 use Rattle.reading.proofs.is_after.Tie as tie
@@ -16,9 +10,6 @@ module _ (p w : ℕ) where
 
   lower : w ≤ p → false ≡ (ltb p w && not (begins p w))
   lower l = rw (le-ltb p w l) refl
-
-begins-requires : tie.Need-begins-requires
-begins-requires c κs = search needs
 
 returns : tie.Need-returns
 returns c =
@@ -31,4 +22,4 @@ returns-2 c =
     lower (g .prior) (g .word) (omega (arith, c .if1 .left))
 
 pub is-after-spec : {M : Type 1} → statement M
-is-after-spec = tie.close (tie.spec begins-requires returns returns-2)
+is-after-spec = tie.close (tie.spec (λ c κs. search needs) returns returns-2)

@@ -1,15 +1,6 @@
 -- `reading::is_filling` meets its contract: bits are all zero exactly when the number that they say is. Assumes nothing.
-use mathlib.Core.Path.{_≡_, refl, sym, ap, _∙_}
-use mathlib.Core.Bool.{Bool, false}
-use mathlib.Core.List.{List}
-use Prim.Native.Nat.{ℕ, _+_, _*_, _-_, _/_, _^_, _≤_, _<_}
-use native.Mathlib.Omega.{arith}
-use borrow.Author.Needs.{needs}
-use borrow.Author.Tests.{le-ltb}
-use lib.Dec.{eqb}
-use lib.ListN.{length, take, drop}
-use lib.Pow.{shr-shr}
-use lib.Seq.{take-all}
+use Rattle.laws.proofs.Library.{_≡_, refl, sym, ap, _∙_, Bool, false, List, ℕ, _+_, _*_, _-_, _/_, _^_, _≤_, _<_, arith, needs, le-ltb, eqb, length, take}
+use Rattle.laws.proofs.Library.{drop, shr-shr, take-all}
 use Rattle.rules.specs.Strings.{field, value}
 use Rattle.rules.specs.Packed.{bitsOf, isFilling}
 use Rattle.reading.specs.Reading.{stream}
@@ -34,18 +25,6 @@ a-byte-or-more : (s : List Bool) → 8 ≤ length s → false ≡ isFilling s
 unfolding isFilling
 a-byte-or-more s h = simp (le-ltb (length s) 8 h)
 
-sub-left : tie.Need-sub-left
-sub-left c = search needs
-
-bits-from-requires : tie.Need-bits-from-requires
-bits-from-requires c κs = search needs
-
-sub-result : tie.Need-sub-result
-sub-result c = search needs
-
-shr-result : tie.Need-shr-result
-shr-result c = search needs
-
 returns : tie.Need-returns
 returns c =
     let g = c .before .before .args in
@@ -57,5 +36,4 @@ returns-2 c =
     a-byte-or-more (drop (g .pos) (stream (g .bits) (g .b .now))) (omega (arith, room-is (g .b .now) (g .bits) (g .pos) (omega arith)))
 
 pub is-filling-spec : {M : Type 1} → statement M
-is-filling-spec =
-    tie.close (tie.spec sub-left bits-from-requires sub-result shr-result returns returns-2)
+is-filling-spec = tie.close (tie.spec (λ c. search needs) (λ c κs. search needs) (λ c. search needs) (λ c. search needs) returns returns-2)

@@ -1,11 +1,6 @@
 -- `reading::is_lawful_read` meets its contract: of what makes a stamp lawful, two names that were read leave only the two questions that the
 -- code asks, and on words in rising order the walks answer them. Assumes nothing.
-use mathlib.Core.Path.{_≡_, refl, sym, ap, ap₂, _∙_}
-use mathlib.Core.Bool.{Bool, true, false, not, _&&_}
-use mathlib.Core.List.{List}
-use Prim.Native.Nat.{ℕ}
-use borrow.Author.Needs.{needs}
-use lib.Dec.{lit≤}
+use Rattle.laws.proofs.Library.{_≡_, refl, sym, ap, ap₂, _∙_, Bool, true, false, not, _&&_, List, ℕ, needs, lit≤}
 use Rattle.rules.specs.Limits.{narrow}
 use Rattle.rules.specs.Stamps.{isNone, pair, lawful}
 use Rattle.layout.proofs.Names.{named}
@@ -29,12 +24,6 @@ judged u i under alone n eb et =
     (et ∙ ap not (twins i (named narrow (strs i) (n .id) .rises)) ∙ not-not (isNone (pair (strs i))))
     ∙ rw (n .update) (rw (n .id) refl)
 
-is-below-requires : tie.Need-is-below-requires
-is-below-requires c κs = search needs
-
-has-twins-requires : tie.Need-has-twins-requires
-has-twins-requires c κs = search needs
-
 returns : tie.Need-returns
 returns c =
     let g = c .before .before .before .before .before in
@@ -47,4 +36,4 @@ returns-2 c =
     judged (g .args .u .now) (g .args .i .now) false _ (g .pre) (sym (c .if1 .left) ∙ c .before .is-below .ensures) refl
 
 pub is-lawful-read-spec : {M : Type 1} → statement M
-is-lawful-read-spec = tie.close (tie.spec is-below-requires has-twins-requires returns returns-2)
+is-lawful-read-spec = tie.close (tie.spec (λ c κs. search needs) (λ c κs. search needs) returns returns-2)

@@ -1,17 +1,8 @@
 -- `reading::name_in` meets its contract: the words written are those of the strings read so far, and the reader of bits goes on from
 -- the same bit behind the same string. Assumes nothing.
-use mathlib.Core.Path.{_≡_, refl, sym, ap, _∙_}
-use mathlib.Core.Bool.{Bool, true, false, not, _&&_}
-use mathlib.Core.List.{List, [], _∷_, _++_, append-assoc, append-nil, map-append}
-use mathlib.Core.Option.{none, some}
-use Prim.Native.Nat.{ℕ, suc, _+_, _*_, _-_, _/_, _^_, _≤_, _<_}
-use native.Mathlib.Numerals.{add-one}
-use native.Mathlib.Omega.{arith}
-use borrow.Author.Needs.{needs}
-use borrow.Author.Tests.{le-leb, lt-leb, leb-true, leb-false, not-true, not-false}
-use lib.Dec.{leb, ltb, lit≤}
-use lib.ListN.{length, take, drop, set, length-append, length-set}
-use lib.Seq.{drop-drop, take-suc-set}
+use Rattle.laws.proofs.Library.{_≡_, refl, sym, ap, _∙_, Bool, true, false, not, _&&_, List, [], _∷_, _++_, append-assoc, append-nil, map-append, none}
+use Rattle.laws.proofs.Library.{some, ℕ, suc, _+_, _*_, _-_, _/_, _^_, _≤_, _<_, add-one, arith, needs, le-leb, lt-leb, leb-true, leb-false, not-true}
+use Rattle.laws.proofs.Library.{not-false, leb, ltb, lit≤, length, take, drop, set, length-append, length-set, drop-drop, take-suc-set}
 use Rattle.rules.specs.Limits.{narrow}
 use Rattle.rules.specs.Strings.{Str, less, field, value, strOf, isWord}
 use Rattle.rules.specs.Names.{Name, all}
@@ -196,15 +187,6 @@ Inv-loop b bits pos out₀ no-name more prior₀ next₀ count₀ out prior next
 abbrev μ-loop : tie.MeasureT-loop
 μ-loop b bits pos out₀ no-name more prior₀ next₀ count₀ out prior next count = more + 1 - count
 
-bits-from-requires : tie.Need-bits-from-requires Inv-loop μ-loop
-bits-from-requires c κs = search needs
-
-add-string-in : tie.Need-add-string-in Inv-loop μ-loop
-add-string-in c = search needs
-
-string-in-requires : tie.Need-string-in-requires Inv-loop μ-loop
-string-in-requires c κs = search needs
-
 returns : tie.Need-returns Inv-loop μ-loop
 returns c =
     let s = c .before .before in
@@ -213,9 +195,6 @@ returns c =
     refused (g .b .now) (g .bits) (g .pos) (g .out .now) (omega arith)
     (no-first (g .b .now) (g .bits) (g .pos) (v .bits-from .result) _ (s .string-in .result) refl (omega arith) (omega arith) (v .bits-from .ensures)
     (s .string-in .ensures) (not-true _ (c .if1 .taken)))
-
-element-write-out : tie.Need-element-write-out Inv-loop μ-loop
-element-write-out c = search needs
 
 loop-holds : tie.Need-loop-holds Inv-loop μ-loop
 loop-holds c =
@@ -230,9 +209,6 @@ loop-holds c =
           (s .string-in .ensures) _ (g .out .now) (omega arith) (omega arith) (not-false _ (c .if1 .left)),
     )
 
-string-in-requires-2 : tie.Need-string-in-requires-2 Inv-loop μ-loop
-string-in-requires-2 c κs = search needs
-
 returns-2 : tie.Need-returns-2 Inv-loop μ-loop
 returns-2 c =
     let t = c .before .before in
@@ -241,9 +217,6 @@ returns-2 c =
     let more = l .before .before .before .before .bits-from .result / 2 ^ 60 in
     refused (g .b .now) (g .bits) (g .pos) (l .loop .out) (l .loop .inv .3)
     (stopped (l .loop .inv .4) (more - l .loop .count) (t .string-in2 .result) (omega arith) (t .string-in2 .ensures) (not-true _ (c .if2 .taken)))
-
-is-after-requires : tie.Need-is-after-requires Inv-loop μ-loop
-is-after-requires c κs = search needs
 
 returns-3 : tie.Need-returns-3 Inv-loop μ-loop
 returns-3 c =
@@ -255,18 +228,6 @@ returns-3 c =
     refused (g .b .now) (g .bits) (g .pos) (l .loop .out) (l .loop .inv .3)
     (fallen (l .loop .inv .4) (more - l .loop .count) (t .string-in2 .result) (omega arith) (t .string-in2 .ensures)
     (not-false _ (a .before .if2 .left)) (sym (a .is-after .ensures) ∙ not-true _ (c .if3 .taken)))
-
-mul-out : tie.Need-mul-out Inv-loop μ-loop
-mul-out c = search needs
-
-element-write-out-2 : tie.Need-element-write-out-2 Inv-loop μ-loop
-element-write-out-2 c = search needs
-
-add-count : tie.Need-add-count Inv-loop μ-loop
-add-count c = search needs
-
-loop-less : tie.Need-loop-less Inv-loop μ-loop
-loop-less c = search needs
 
 loop-again : tie.Need-loop-again Inv-loop μ-loop
 loop-again c =
@@ -289,24 +250,6 @@ returns-4 c =
     ended (l .loop .inv .4) (omega arith) (omega arith) (omega arith) (l .loop .inv .3)
 
 pub name-in-spec : {M : Type 1} → statement M
-name-in-spec =
-    tie.close
-    (tie.spec
-    Inv-loop
-    μ-loop
-    bits-from-requires
-    add-string-in
-    string-in-requires
-    returns
-    element-write-out
-    loop-holds
-    string-in-requires-2
-    returns-2
-    is-after-requires
-    returns-3
-    mul-out
-    element-write-out-2
-    add-count
-    loop-less
-    loop-again
-    returns-4)
+name-in-spec = tie.close (tie.spec Inv-loop μ-loop (λ c κs. search needs) (λ c. search needs) (λ c κs. search needs) returns (λ c. search needs)
+    loop-holds (λ c κs. search needs) returns-2 (λ c κs. search needs) returns-3 (λ c. search needs) (λ c. search needs) (λ c. search needs)
+    (λ c. search needs) loop-again returns-4)

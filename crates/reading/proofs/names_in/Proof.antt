@@ -1,15 +1,6 @@
 -- `reading::names_in` meets its contract: each test of the code is the one that the reader of bits makes there. Assumes nothing.
-use mathlib.Core.Path.{_≡_, refl, sym, ap, _∙_}
-use mathlib.Core.Bool.{Bool, true, false, cond}
-use mathlib.Core.List.{List}
-use mathlib.Core.Option.{Option, none, some}
-use Prim.Native.Nat.{ℕ, _*_, _≤_, _<_}
-use native.Mathlib.Omega.{arith}
-use borrow.Author.Needs.{needs}
-use borrow.Author.Tests.{not-true, not-false}
-use lib.Dec.{lit≤}
-use lib.ListN.{length, take, drop, replicate, length-append, length-drop, length-replicate}
-use lib.Seq.{take-at}
+use Rattle.laws.proofs.Library.{_≡_, refl, sym, ap, _∙_, Bool, true, false, cond, List, Option, none, some, ℕ, _*_, _≤_, _<_, arith, needs, not-true}
+use Rattle.laws.proofs.Library.{not-false, lit≤, length, take, drop, replicate, length-append, length-drop, length-replicate, take-at}
 use Rattle.rules.specs.Limits.{narrow}
 use Rattle.rules.specs.Names.{Name, all}
 use Rattle.rules.specs.Stamps.{Stamp}
@@ -121,12 +112,6 @@ returns c =
     refused (g .b .now) (g .u .now) (g .i .now) (omega arith) (omega arith)
     (too-long (g .b .now) (bytes-are (g .b .now) (λ i. c .before .shared-slice-known .given i .fits)) (omega arith))
 
-mul-bits : tie.Need-mul-bits
-mul-bits c = search needs
-
-pad-requires : tie.Need-pad-requires
-pad-requires c κs = search needs
-
 name-in-requires : tie.Need-name-in-requires
 name-in-requires c κs =
     let p = c .before .before in
@@ -188,16 +173,5 @@ returns-5 c =
     (sym (not-false _ (c .if4 .left)) ∙ c .before .is-filling .ensures)
 
 pub names-in-spec : {M : Type 1} → statement M
-names-in-spec =
-    tie.close
-    (tie.spec
-    returns
-    mul-bits
-    pad-requires
-    name-in-requires
-    returns-2
-    name-in-requires-2
-    returns-3
-    is-filling-requires
-    returns-4
-    returns-5)
+names-in-spec = tie.close (tie.spec returns (λ c. search needs) (λ c κs. search needs) name-in-requires returns-2 name-in-requires-2 returns-3
+    is-filling-requires returns-4 returns-5)

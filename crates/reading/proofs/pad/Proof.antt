@@ -1,11 +1,5 @@
 -- `reading::pad` meets its contract: after k turns the first k bytes are those of b, and the rest is as it was. Assumes nothing.
-use mathlib.Core.Path.{_≡_, refl, ap, _∙_}
-use mathlib.Core.List.{List, _++_}
-use Prim.Native.Nat.{ℕ, _-_, _≤_}
-use native.Mathlib.Omega.{arith}
-use borrow.Author.Needs.{needs}
-use lib.ListN.{length, getD, take, drop, set}
-use lib.Seq.{take-length}
+use Rattle.laws.proofs.Library.{_≡_, refl, ap, _∙_, List, _++_, ℕ, _-_, _≤_, arith, needs, length, getD, take, drop, set, take-length}
 use Rattle.reading.proofs.Streams.{copied-more}
 use Rattle.reading.proofs.pad.Statement.{statement}
 use Rattle.reading.proofs.pad.Tie as tie
@@ -15,21 +9,6 @@ Inv-loop b to₀ k₀ to k = (k ≤ length b) × (to ≡ take k b ++ drop k to�
 
 abbrev μ-loop : tie.MeasureT-loop
 μ-loop b to₀ k₀ to k = length b - k
-
-loop-holds : tie.Need-loop-holds Inv-loop μ-loop
-loop-holds c = (omega arith, refl)
-
-shared-slice-read-to : tie.Need-shared-slice-read-to Inv-loop μ-loop
-shared-slice-read-to c = search needs
-
-element-write-to : tie.Need-element-write-to Inv-loop μ-loop
-element-write-to c = search needs
-
-add-k : tie.Need-add-k Inv-loop μ-loop
-add-k c = search needs
-
-loop-less : tie.Need-loop-less Inv-loop μ-loop
-loop-less c = search needs
 
 loop-again : tie.Need-loop-again Inv-loop μ-loop
 loop-again c =
@@ -48,15 +27,5 @@ returns c =
     l .loop .inv .1 ∙ ap (λ (k : ℕ). take k (g .b .now) ++ drop k (g .to .now)) e ∙ ap (λ (x : List ℕ). x ++ drop (length (g .b .now)) (g .to .now)) (take-length (g .b .now))
 
 pub pad-spec : {M : Type 1} → statement M
-pad-spec =
-    tie.close
-    (tie.spec
-    Inv-loop
-    μ-loop
-    loop-holds
-    shared-slice-read-to
-    element-write-to
-    add-k
-    loop-less
-    loop-again
-    returns)
+pad-spec = tie.close (tie.spec Inv-loop μ-loop (λ c. (omega arith, refl)) (λ c. search needs) (λ c. search needs) (λ c. search needs)
+    (λ c. search needs) loop-again returns)

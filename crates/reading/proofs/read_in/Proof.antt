@@ -1,16 +1,7 @@
 -- `reading::read_in` meets its contract: the words that were read are those of the stamp that the bytes pack, and both names are names by the
 -- way they were read, so that the two questions that are left decide whether it is lawful. Assumes nothing.
-use mathlib.Core.Path.{_≡_, refl, sym, ap, ap₂, _∙_}
-use mathlib.Core.Bool.{true, false}
-use mathlib.Core.List.{List, [], _∷_, map}
-use mathlib.Core.Option.{some}
-use Prim.Native.Nat.{ℕ, _-_}
-use native.Mathlib.Omega.{arith}
-use borrow.Author.Needs.{needs}
-use borrow.Author.Tests.{not-true, not-false}
-use lib.Dec.{lit≤}
-use lib.ListN.{length, take, replicate, length-map}
-use lib.Seq.{length-take-le, take-at}
+use Rattle.laws.proofs.Library.{_≡_, refl, sym, ap, ap₂, _∙_, true, false, List, [], _∷_, map, some, ℕ, _-_, arith, needs, not-true, not-false, lit≤}
+use Rattle.laws.proofs.Library.{length, take, replicate, length-map, length-take-le, take-at}
 use Rattle.rules.specs.Limits.{narrow}
 use Rattle.rules.specs.Strings.{wordOf, strOf, isWord}
 use Rattle.rules.specs.Names.{all}
@@ -106,12 +97,6 @@ module _ {b : List ℕ} {r : TwoNames} {us is : List ℕ} (n : NamesIn b r us is
 
 -- ---- the code
 
-names-in-requires : tie.Need-names-in-requires
-names-in-requires c κs = search needs
-
-unread-requires : tie.Need-unread-requires
-unread-requires c κs = search needs
-
 returns : tie.Need-returns
 returns c =
     let n = c .before .before .before in
@@ -133,9 +118,6 @@ slice-aggregate-is-lawful-read-2 c = part-length (c .before .before .before .bef
 
 is-lawful-read-requires : tie.Need-is-lawful-read-requires
 is-lawful-read-requires c κs = are-names (c .before .before .before .before .names-in .ensures) (not-false _ (c .before .before .if1 .left))
-
-unread-requires-2 : tie.Need-unread-requires-2
-unread-requires-2 c κs = search needs
 
 returns-2 : tie.Need-returns-2
 returns-2 c =
@@ -175,23 +157,6 @@ returns-3 c =
     )
 
 pub read-in-spec : {M : Type 1} → statement M
-read-in-spec =
-    tie.close
-    (tie.spec
-    names-in-requires
-    unread-requires
-    returns
-    array-share-prefix-u
-    slice-aggregate-is-lawful-read
-    array-share-prefix-i
-    slice-aggregate-is-lawful-read-2
-    is-lawful-read-requires
-    unread-requires-2
-    returns-2
-    array-share-prefix-u-2
-    slice-aggregate-lend
-    lend-requires
-    array-share-prefix-i-2
-    slice-aggregate-lend-2
-    lend-requires-2
-    returns-3)
+read-in-spec = tie.close (tie.spec (λ c κs. search needs) (λ c κs. search needs) returns array-share-prefix-u slice-aggregate-is-lawful-read
+    array-share-prefix-i slice-aggregate-is-lawful-read-2 is-lawful-read-requires (λ c κs. search needs) returns-2 array-share-prefix-u-2
+    slice-aggregate-lend lend-requires array-share-prefix-i-2 slice-aggregate-lend-2 lend-requires-2 returns-3)

@@ -1,19 +1,9 @@
 -- `reading::string_in` meets its contract: the top five bits that are shown are the length, those behind them the digits, and each
 -- test of the code is the one that the reader of bits makes there. Assumes nothing.
-use mathlib.Core.Path.{_≡_, refl, sym, ap, ap₂, _∙_}
-use mathlib.Core.Bool.{Bool, true, false}
-use mathlib.Core.List.{List}
-use mathlib.Core.Option.{none, some}
-use Prim.Native.Nat.{ℕ, _+_, _*_, _-_, _/_, _%_, _^_, _≤_, _<_}
-use native.Mathlib.Nat.{mod-lt}
-use native.Mathlib.Omega.{arith}
-use borrow.Author.Needs.{needs}
-use borrow.Author.Tests.{le-leb, lt-leb, leb-true, leb-false, eq-eqb}
+use Rattle.laws.proofs.Library.{_≡_, refl, sym, ap, ap₂, _∙_, Bool, true, false, List, none, some, ℕ, _+_, _*_, _-_, _/_, _%_, _^_, _≤_, _<_, mod-lt, arith}
+use Rattle.laws.proofs.Library.{needs, le-leb, lt-leb, leb-true, leb-false, eq-eqb, leb, length, take, drop, length-drop, pow-pos, pow-mono, shr-lt}
+use Rattle.laws.proofs.Library.{length-take-le, drop-drop}
 use lib.Bits.{bitAnd, and-le-l}
-use lib.Dec.{leb}
-use lib.ListN.{length, take, drop, length-drop}
-use lib.Pow.{pow-pos, pow-mono, shr-lt}
-use lib.Seq.{length-take-le, drop-drop}
 use Rattle.rules.specs.Limits.{narrow}
 use Rattle.rules.specs.Strings.{Str, field, valueFrom, value, aligned, wordOf, strOf, isWord}
 use Rattle.rules.specs.Packed.{bitsOf, takeBits, takeNumber, takeString}
@@ -134,9 +124,6 @@ module _ (b : List ℕ) (bits pos v n : ℕ) (en : n ≡ v / 2 ^ 59) (hv : v < 2
         inside = omega arith;
       }
 
-bits-from-requires : tie.Need-bits-from-requires
-bits-from-requires c κs = search needs
-
 returns : tie.Need-returns
 returns c =
     let v = c .before in
@@ -144,24 +131,12 @@ returns c =
     refused (g .b .now) (g .bits) (g .pos)
     (too-long (g .b .now) (g .bits) (g .pos) (v .bits-from .result) _ refl (omega arith) (omega arith) (v .bits-from .ensures) (omega arith))
 
-add-next : tie.Need-add-next
-add-next c = search needs
-
-add-next-2 : tie.Need-add-next-2
-add-next-2 c = search needs
-
 returns-2 : tie.Need-returns-2
 returns-2 c =
     let v = c .before .before in
     let g = v .before .args in
     refused (g .b .now) (g .bits) (g .pos)
     (too-short (g .b .now) (g .bits) (g .pos) (v .bits-from .result) _ refl (omega arith) (omega arith) (v .bits-from .ensures) (omega arith) (omega arith))
-
-shr-ones : tie.Need-shr-ones
-shr-ones c = search needs
-
-sub-above : tie.Need-sub-above
-sub-above c = and-le-l _ _
 
 add-t14 : tie.Need-add-t14
 add-t14 c =
@@ -175,15 +150,5 @@ returns-3 c =
     found (g .b .now) (g .bits) (g .pos) (v .bits-from .result) _ refl (omega arith) (omega arith) (v .bits-from .ensures) (omega arith) (omega arith)
 
 pub string-in-spec : {M : Type 1} → statement M
-string-in-spec =
-    tie.close
-    (tie.spec
-    bits-from-requires
-    returns
-    add-next
-    add-next-2
-    returns-2
-    shr-ones
-    sub-above
-    add-t14
-    returns-3)
+string-in-spec = tie.close (tie.spec (λ c κs. search needs) returns (λ c. search needs) (λ c. search needs) returns-2 (λ c. search needs)
+    (λ c. and-le-l _ _) add-t14 returns-3)

@@ -1,9 +1,6 @@
 -- `slots::absent_or_next` meets its contract. Assumes nothing.
-use mathlib.Core.Path.{sym, _∙_}
-use native.Mathlib.Omega.{arith}
-use borrow.Author.Tests.{lt-ltb, le-ltb}
+use Rattle.laws.proofs.Library.{sym, _∙_, arith, lt-ltb, le-ltb, needs}
 use Rattle.slots.specs.Scans.{absentOrNext}
-use borrow.Author.Needs.{needs}
 use Rattle.slots.proofs.absent_or_next.Statement.{statement}
 use Rattle.slots.proofs.absent_or_next.Tie as tie
 
@@ -11,20 +8,11 @@ returns : tie.Need-returns
 unfolding absentOrNext
 returns c = simp (le-ltb (c .before .args .k) 32 (omega arith))
 
-is-absent-requires : tie.Need-is-absent-requires
-is-absent-requires c κs = search needs
-
-add-result : tie.Need-add-result
-add-result c = search needs
-
 returns-2 : tie.Need-returns-2
 unfolding absentOrNext
 returns-2 c =
     let a = c .before in
     simp (lt-ltb (a .before .before .args .k) 32 (omega arith), sym (a .is-absent .ensures) ∙ c .if2 .taken)
-
-add-result-2 : tie.Need-add-result-2
-add-result-2 c = search needs
 
 returns-3 : tie.Need-returns-3
 unfolding absentOrNext
@@ -33,5 +21,4 @@ returns-3 c =
     simp (lt-ltb (a .before .before .args .k) 32 (omega arith), sym (a .is-absent .ensures) ∙ c .if2 .left)
 
 pub absent-or-next-spec : {M : Type 1} → statement M
-absent-or-next-spec =
-    tie.close (tie.spec returns is-absent-requires add-result returns-2 add-result-2 returns-3)
+absent-or-next-spec = tie.close (tie.spec returns (λ c κs. search needs) (λ c. search needs) returns-2 (λ c. search needs) returns-3)

@@ -1,6 +1,5 @@
 -- `slots::compare_rule` meets its contract: 3, and else what `stamps::compare` answers, as the table says it. Assumes nothing.
-use borrow.Author.Tests.{eq-eqb, ne-eqb}
-use mathlib.Core.Path.{_≡_, sym, ap, _∙_}
+use Rattle.laws.proofs.Library.{eq-eqb, ne-eqb, _≡_, sym, ap, _∙_, needs}
 use Rattle.rules.specs.Limits.{narrow}
 use Rattle.rules.specs.Packed.{comparedNumber}
 use Rattle.rules.specs.Refusals.{first}
@@ -8,26 +7,16 @@ use Rattle.rules.specs.Values.{compared}
 use Rattle.rules.specs.declared.Compared.{Compared}
 use Rattle.slots.specs.Rules.{compareRule, tableCode}
 use Rattle.slots.proofs.Forms.{compare-form}
-use borrow.Author.Needs.{needs}
 use Rattle.slots.proofs.compare_rule.Statement.{statement}
 use Rattle.slots.proofs.compare_rule.Tie as tie
-
-slot-code-requires : tie.Need-slot-code-requires
-slot-code-requires c κs = search needs
 
 returns : tie.Need-returns
 unfolding compareRule
 returns c = simp (eq-eqb _ _ (c .before .if1 .taken)) (c .slot-code .ensures)
 
-is-absent-requires : tie.Need-is-absent-requires
-is-absent-requires c κs = search needs
-
 returns-2 : tie.Need-returns-2
 unfolding compareRule first
 returns-2 c = simp (ne-eqb _ _ (c .before .before .if1 .left), sym (c .before .is-absent .ensures) ∙ c .if2 .taken)
-
-is-absent-requires-2 : tie.Need-is-absent-requires-2
-is-absent-requires-2 c κs = search needs
 
 returns-3 : tie.Need-returns-3
 unfolding compareRule first
@@ -38,15 +27,6 @@ returns-3 c =
       sym (a .before .is-absent .ensures) ∙ a .if2 .left,
       sym (c .before .is-absent2 .ensures) ∙ c .if3 .taken,
     )
-
-compare-requires : tie.Need-compare-requires
-compare-requires c κs = search needs
-
-compared-code-requires : tie.Need-compared-code-requires
-compared-code-requires c κs = search needs
-
-table-code-requires : tie.Need-table-code-requires
-table-code-requires c κs = search needs
 
 returns-4 : tie.Need-returns-4
 unfolding compareRule first
@@ -63,16 +43,5 @@ returns-4 c =
     ∙ compare-form (g .s) (g .u))
 
 pub compare-rule-spec : {M : Type 1} → statement M
-compare-rule-spec =
-    tie.close
-    (tie.spec
-    slot-code-requires
-    returns
-    is-absent-requires
-    returns-2
-    is-absent-requires-2
-    returns-3
-    compare-requires
-    compared-code-requires
-    table-code-requires
-    returns-4)
+compare-rule-spec = tie.close (tie.spec (λ c κs. search needs) returns (λ c κs. search needs) returns-2 (λ c κs. search needs) returns-3
+    (λ c κs. search needs) (λ c κs. search needs) (λ c κs. search needs) returns-4)

@@ -1,8 +1,5 @@
 -- `slots::fork_rule` meets its contract: 3, 5 where no slot is absent, and else what `stamps::fork` answers, as the table says it. Assumes nothing.
-use borrow.Author.Tests.{eq-eqb, ne-eqb}
-use mathlib.Core.Path.{sym, ap, _∙_}
-use mathlib.Core.List.{[], _∷_}
-use Prim.Native.Nat.{ℕ}
+use Rattle.laws.proofs.Library.{eq-eqb, ne-eqb, sym, ap, _∙_, [], _∷_, ℕ, needs}
 use Rattle.rules.specs.Limits.{narrow}
 use Rattle.rules.specs.Refusals.{first, long}
 use Rattle.rules.specs.Stored.{held}
@@ -11,19 +8,12 @@ use Rattle.rules.specs.declared.Forked.{Forked}
 use Rattle.rules.specs.declared.Refusal.the-variants.{Long}
 use Rattle.slots.specs.Rules.{forkRule, fullCode, twoOf, atTable, tableCode}
 use Rattle.slots.proofs.Forms.{table-code, fork-form, full-form}
-use borrow.Author.Needs.{needs}
 use Rattle.slots.proofs.fork_rule.Statement.{statement}
 use Rattle.slots.proofs.fork_rule.Tie as tie
-
-is-absent-requires : tie.Need-is-absent-requires
-is-absent-requires c κs = search needs
 
 returns : tie.Need-returns
 unfolding forkRule first
 returns c = simp (sym (c .before .is-absent .ensures) ∙ c .if1 .taken)
-
-full-code-requires : tie.Need-full-code-requires
-full-code-requires c κs = search needs
 
 returns-2 : tie.Need-returns-2
 unfolding forkRule fullCode first
@@ -34,21 +24,6 @@ returns-2 c =
     simp (sym (a .before .is-absent .ensures) ∙ a .if1 .left, eq-eqb _ _ (k .if2 .taken))
     (ap (λ (n : ℕ). record { code = n; first = g .s; second = g .u }) (c .full-code .ensures)
     ∙ full-form ((long narrow (held (g .s)), Long) ∷ []) (g .b) (g .s) (g .u) _ _)
-
-fork-requires : tie.Need-fork-requires
-fork-requires c κs = search needs
-
-enum-told : tie.Need-enum-told
-enum-told c = search needs
-
-enum-known-answer : tie.Need-enum-known-answer
-enum-known-answer c = search needs
-
-refusal-code-requires : tie.Need-refusal-code-requires
-refusal-code-requires c κs = search needs
-
-table-code-requires : tie.Need-table-code-requires
-table-code-requires c κs = search needs
 
 returns-3 : tie.Need-returns-3
 unfolding forkRule first
@@ -81,17 +56,5 @@ returns-4 c =
     ∙ fork-form (g .b) (g .s) (g .u))
 
 pub fork-rule-spec : {M : Type 1} → statement M
-fork-rule-spec =
-    tie.close
-    (tie.spec
-    is-absent-requires
-    returns
-    full-code-requires
-    returns-2
-    fork-requires
-    enum-told
-    enum-known-answer
-    refusal-code-requires
-    table-code-requires
-    returns-3
-    returns-4)
+fork-rule-spec = tie.close (tie.spec (λ c κs. search needs) returns (λ c κs. search needs) returns-2 (λ c κs. search needs) (λ c. search needs)
+    (λ c. search needs) (λ c κs. search needs) (λ c κs. search needs) returns-3 returns-4)

@@ -1,6 +1,5 @@
 -- `slots::found_or` meets its contract. Assumes nothing.
-use native.Mathlib.Omega.{arith}
-use borrow.Author.Tests.{lt-ltb, le-ltb}
+use Rattle.laws.proofs.Library.{arith, lt-ltb, le-ltb}
 use Rattle.slots.specs.Scans.{foundOr}
 use Rattle.slots.proofs.found_or.Statement.{statement}
 use Rattle.slots.proofs.found_or.Tie as tie

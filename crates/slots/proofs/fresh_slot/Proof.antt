@@ -1,8 +1,5 @@
 -- `slots::fresh_slot` meets its contract: the word of the empty string is 0, so one string in each of a blank record's names is [e|e]. Assumes nothing.
-use borrow.Author.Needs.{needs}
-use native.Mathlib.Omega.{arith}
-use borrow.Author.Tests.{eq-eqb, ne-eqb}
-use mathlib.Core.Path.{_≡_, refl, ap, _∙_}
+use Rattle.laws.proofs.Library.{needs, arith, eq-eqb, ne-eqb, _≡_, refl, ap, _∙_}
 use Rattle.rules.specs.Limits.{narrow}
 use Rattle.rules.specs.Stamps.{start}
 use Rattle.rules.specs.Stored.{stored, blank, wordsOf}
@@ -21,9 +18,6 @@ one-blank : one (blank narrow) ≡ stored narrow start
 unfolding blank stored wordsOf wordOf aligned valueFrom
 one-blank = refl
 
-blank-requires : tie.Need-blank-requires
-blank-requires c κs = search needs
-
 returns : tie.Need-returns
 unfolding freshSlot
 returns c =
@@ -37,4 +31,4 @@ returns-2 c =
     simp (ne-eqb (b .before .args .i) 0 (λ e. omega arith)) (b .blank .ensures)
 
 pub fresh-slot-spec : {M : Type 1} → statement M
-fresh-slot-spec = tie.close (tie.spec blank-requires returns returns-2)
+fresh-slot-spec = tie.close (tie.spec (λ c κs. search needs) returns returns-2)

@@ -1,13 +1,9 @@
 -- `slots::full_code` meets its contract. Assumes nothing.
-use mathlib.Core.Path.{sym, _∙_}
+use Rattle.laws.proofs.Library.{sym, _∙_, needs}
 use Rattle.rules.specs.Stored.{unlawful}
 use Rattle.slots.specs.Rules.{fullCode}
-use borrow.Author.Needs.{needs}
 use Rattle.slots.proofs.full_code.Statement.{statement}
 use Rattle.slots.proofs.full_code.Tie as tie
-
-is-lawful-requires : tie.Need-is-lawful-requires
-is-lawful-requires c κs = search needs
 
 returns : tie.Need-returns
 unfolding fullCode unlawful
@@ -18,4 +14,4 @@ unfolding fullCode unlawful
 returns-2 c = simp (sym (c .before .is-lawful .ensures) ∙ c .if1 .left)
 
 pub full-code-spec : {M : Type 1} → statement M
-full-code-spec = tie.close (tie.spec is-lawful-requires returns returns-2)
+full-code-spec = tie.close (tie.spec (λ c κs. search needs) returns returns-2)

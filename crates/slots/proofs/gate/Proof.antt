@@ -1,6 +1,5 @@
 -- `slots::gate` meets its contract: the tests in their order. Assumes nothing.
-use borrow.Author.Tests.{lt-ltb, le-ltb, le-leb, lt-leb, eq-eqb, ne-eqb}
-use native.Mathlib.Omega.{arith}
+use Rattle.laws.proofs.Library.{lt-ltb, le-ltb, le-leb, lt-leb, eq-eqb, ne-eqb, arith}
 use Rattle.slots.specs.Gates.{gateCode}
 use Rattle.slots.proofs.gate.Statement.{statement}
 use Rattle.slots.proofs.gate.Tie as tie

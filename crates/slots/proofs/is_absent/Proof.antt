@@ -1,10 +1,5 @@
 -- `slots::is_absent` meets its contract: both counts are 0, and every word. Assumes nothing.
-use borrow.Author.Needs.{needs}
-use mathlib.Core.Path.{_≡_, sym, ap, _∙_}
-use mathlib.Core.Bool.{Bool, true, false, _&&_}
-use native.Mathlib.Omega.{arith}
-use lib.Dec.{eqb}
-use lib.ListN.{length}
+use Rattle.laws.proofs.Library.{needs, _≡_, sym, ap, _∙_, Bool, true, false, _&&_, arith, eqb, length}
 use Rattle.rules.specs.Names.{all}
 use Rattle.slots.proofs.Zeros.{field-length, some-update, some-id, no-counts}
 use Rattle.slots.proofs.is_absent.Statement.{statement}
@@ -27,12 +22,6 @@ returns-2 c =
     let g = c .before .before in
     sym (some-id (g .args .t1) (update-room g) (id-room g) (λ e. omega arith))
 
-is-zero-from-requires : tie.Need-is-zero-from-requires
-is-zero-from-requires c κs = search needs
-
-is-zero-from-requires-2 : tie.Need-is-zero-from-requires-2
-is-zero-from-requires-2 c κs = search needs
-
 returns-3 : tie.Need-returns-3
 returns-3 c =
     let l = c .before .before .before .before in
@@ -54,6 +43,4 @@ returns-4 c =
     ∙ ap (λ (b : Bool). b && all (eqb 0) id) (let e : all (eqb 0) update ≡ false = sym (z .is-zero-from .ensures) ∙ c .if3 .left in e))
 
 pub is-absent-spec : {M : Type 1} → statement M
-is-absent-spec =
-    tie.close
-    (tie.spec returns returns-2 is-zero-from-requires is-zero-from-requires-2 returns-3 returns-4)
+is-absent-spec = tie.close (tie.spec returns returns-2 (λ c κs. search needs) (λ c κs. search needs) returns-3 returns-4)

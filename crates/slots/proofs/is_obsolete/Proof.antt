@@ -1,21 +1,8 @@
 -- `slots::is_obsolete` meets its contract: one way for each verdict. Assumes nothing.
-use mathlib.Core.Path.{sym, ap}
-use borrow.Author.Needs.{needs}
+use Rattle.laws.proofs.Library.{sym, ap, needs}
 use Rattle.slots.specs.Scans.{obsoleteNumber}
 use Rattle.slots.proofs.is_obsolete.Statement.{statement}
 use Rattle.slots.proofs.is_obsolete.Tie as tie
-
-enum-told : tie.Need-enum-told
-enum-told c = search needs
-
-enum-told-2 : tie.Need-enum-told-2
-enum-told-2 c = search needs
-
-enum-told-3 : tie.Need-enum-told-3
-enum-told-3 c = search needs
-
-enum-told-4 : tie.Need-enum-told-4
-enum-told-4 c = search needs
 
 returns : tie.Need-returns
 returns c = sym (ap obsoleteNumber (c .enum-told .given .1))
@@ -30,5 +17,5 @@ returns-4 : tie.Need-returns-4
 returns-4 c = sym (ap obsoleteNumber (c .enum-told4 .given .1))
 
 pub is-obsolete-spec : {M : Type 1} → statement M
-is-obsolete-spec =
-    tie.close (tie.spec enum-told enum-told-2 enum-told-3 enum-told-4 returns returns-2 returns-3 returns-4)
+is-obsolete-spec = tie.close (tie.spec (λ c. search needs) (λ c. search needs) (λ c. search needs) (λ c. search needs) returns returns-2 returns-3
+    returns-4)

@@ -1,31 +1,9 @@
 -- `slots::meet_code` meets its contract: what the walk over the words that count tells beside a lawful record, and else 12. Assumes nothing.
-use mathlib.Core.Path.{sym, ap, _∙_}
+use Rattle.laws.proofs.Library.{sym, ap, _∙_, needs}
 use Rattle.walks.specs.Walks.{compareWalk}
 use Rattle.slots.specs.Scans.{meetCode, spareCode}
-use borrow.Author.Needs.{needs}
 use Rattle.slots.proofs.meet_code.Statement.{statement}
 use Rattle.slots.proofs.meet_code.Tie as tie
-
-is-lawful-in-requires : tie.Need-is-lawful-in-requires
-is-lawful-in-requires c κs = search needs
-
-counted-requires : tie.Need-counted-requires
-counted-requires c κs = search needs
-
-counted-requires-2 : tie.Need-counted-requires-2
-counted-requires-2 c κs = search needs
-
-counted-requires-3 : tie.Need-counted-requires-3
-counted-requires-3 c κs = search needs
-
-counted-requires-4 : tie.Need-counted-requires-4
-counted-requires-4 c κs = search needs
-
-compare-requires : tie.Need-compare-requires
-compare-requires c κs = search needs
-
-spare-code-requires : tie.Need-spare-code-requires
-spare-code-requires c κs = search needs
 
 returns : tie.Need-returns
 unfolding meetCode
@@ -46,15 +24,5 @@ unfolding meetCode
 returns-2 c = simp (sym (c .before .is-lawful-in .ensures) ∙ c .if1 .left)
 
 pub meet-code-spec : {M : Type 1} → statement M
-meet-code-spec =
-    tie.close
-    (tie.spec
-    is-lawful-in-requires
-    counted-requires
-    counted-requires-2
-    counted-requires-3
-    counted-requires-4
-    compare-requires
-    spare-code-requires
-    returns
-    returns-2)
+meet-code-spec = tie.close (tie.spec (λ c κs. search needs) (λ c κs. search needs) (λ c κs. search needs) (λ c κs. search needs)
+    (λ c κs. search needs) (λ c κs. search needs) (λ c κs. search needs) returns returns-2)

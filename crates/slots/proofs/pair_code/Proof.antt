@@ -1,20 +1,12 @@
 -- `slots::pair_code` meets its contract: the tests in their order. Assumes nothing.
-use borrow.Author.Tests.{eq-eqb, ne-eqb}
-use mathlib.Core.Path.{sym, _∙_}
+use Rattle.laws.proofs.Library.{eq-eqb, ne-eqb, sym, _∙_, needs}
 use Rattle.rules.specs.Refusals.{first}
-use borrow.Author.Needs.{needs}
 use Rattle.slots.proofs.pair_code.Statement.{statement}
 use Rattle.slots.proofs.pair_code.Tie as tie
-
-is-absent-requires : tie.Need-is-absent-requires
-is-absent-requires c κs = search needs
 
 returns : tie.Need-returns
 unfolding first
 returns c = simp (sym (c .before .is-absent .ensures) ∙ c .if1 .taken)
-
-is-absent-requires-2 : tie.Need-is-absent-requires-2
-is-absent-requires-2 c κs = search needs
 
 returns-2 : tie.Need-returns-2
 unfolding first
@@ -37,12 +29,4 @@ returns-4 c =
     simp (sym (a .before .is-absent .ensures) ∙ a .if1 .left, sym (p .before .is-absent2 .ensures) ∙ p .if2 .left, ne-eqb _ _ (c .if3 .left))
 
 pub pair-code-spec : {M : Type 1} → statement M
-pair-code-spec =
-    tie.close
-    (tie.spec
-    is-absent-requires
-    returns
-    is-absent-requires-2
-    returns-2
-    returns-3
-    returns-4)
+pair-code-spec = tie.close (tie.spec (λ c κs. search needs) returns (λ c κs. search needs) returns-2 returns-3 returns-4)

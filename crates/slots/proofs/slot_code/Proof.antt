@@ -1,20 +1,13 @@
 -- `slots::slot_code` meets its contract. Assumes nothing.
-use mathlib.Core.Path.{sym, _∙_}
+use Rattle.laws.proofs.Library.{sym, _∙_, needs}
 use Rattle.rules.specs.Refusals.{first}
 use Rattle.rules.specs.Stored.{unlawful}
-use borrow.Author.Needs.{needs}
 use Rattle.slots.proofs.slot_code.Statement.{statement}
 use Rattle.slots.proofs.slot_code.Tie as tie
-
-is-absent-requires : tie.Need-is-absent-requires
-is-absent-requires c κs = search needs
 
 returns : tie.Need-returns
 unfolding first
 returns c = simp (sym (c .before .is-absent .ensures) ∙ c .if1 .taken)
-
-is-lawful-requires : tie.Need-is-lawful-requires
-is-lawful-requires c κs = search needs
 
 returns-2 : tie.Need-returns-2
 unfolding first unlawful
@@ -29,5 +22,4 @@ returns-3 c =
     simp (sym (a .before .is-absent .ensures) ∙ a .if1 .left, sym (c .before .is-lawful .ensures) ∙ c .if2 .left)
 
 pub slot-code-spec : {M : Type 1} → statement M
-slot-code-spec =
-    tie.close (tie.spec is-absent-requires returns is-lawful-requires returns-2 returns-3)
+slot-code-spec = tie.close (tie.spec (λ c κs. search needs) returns (λ c κs. search needs) returns-2 returns-3)

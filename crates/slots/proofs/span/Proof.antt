@@ -1,6 +1,5 @@
 -- `slots::span` meets its contract. Assumes nothing.
-use native.Mathlib.Omega.{arith}
-use borrow.Author.Tests.{lt-ltb, le-ltb}
+use Rattle.laws.proofs.Library.{arith, lt-ltb, le-ltb}
 use Rattle.slots.specs.Gates.{spanOf}
 use Rattle.slots.proofs.span.Statement.{statement}
 use Rattle.slots.proofs.span.Tie as tie

@@ -1,7 +1,6 @@
 -- `slots::spare_code` meets its contract: one way for each answer. Assumes nothing.
-use mathlib.Core.Path.{sym, ap, _∙_}
+use Rattle.laws.proofs.Library.{sym, ap, _∙_, needs}
 use Rattle.slots.specs.Scans.{spareCode}
-use borrow.Author.Needs.{needs}
 use Rattle.slots.proofs.spare_code.Statement.{statement}
 use Rattle.slots.proofs.spare_code.Tie as tie
 
@@ -30,12 +29,4 @@ returns-2 : tie.Need-returns-2
 returns-2 c = c .refusal-code .ensures ∙ sym (ap spareCode (c .before .before .c2 .given .1))
 
 pub spare-code-spec : {M : Type 1} → statement M
-spare-code-spec =
-    tie.close
-    (tie.spec
-    enum-known-c
-    is-obsolete-requires
-    enum-known-c-2
-    refusal-code-requires
-    returns
-    returns-2)
+spare-code-spec = tie.close (tie.spec enum-known-c is-obsolete-requires enum-known-c-2 refusal-code-requires returns returns-2)

@@ -1,6 +1,5 @@
 -- `slots::table_code` meets its contract. Assumes nothing.
-use native.Mathlib.Omega.{arith}
-use borrow.Author.Tests.{eq-eqb, ne-eqb}
+use Rattle.laws.proofs.Library.{arith, eq-eqb, ne-eqb}
 use Rattle.slots.specs.Rules.{tableCode}
 use Rattle.slots.proofs.table_code.Statement.{statement}
 use Rattle.slots.proofs.table_code.Tie as tie

@@ -1,11 +1,7 @@
 -- `slots::weigh` meets its contract. Assumes nothing.
-use mathlib.Core.Path.{sym, ap, subst, _∙_}
-use Prim.Native.Nat.{ℕ, _+_, _≤_}
-use native.Mathlib.Omega.{arith}
-use borrow.Author.Tests.{lt-ltb, le-ltb, eq-eqb, ne-eqb}
+use Rattle.laws.proofs.Library.{sym, ap, subst, _∙_, ℕ, _+_, _≤_, arith, lt-ltb, le-ltb, eq-eqb, ne-eqb, needs}
 use Rattle.slots.specs.Scans.{weighed, onwardTo}
 use Rattle.slots.proofs.Few.{meet-few}
-use borrow.Author.Needs.{needs}
 use Rattle.slots.proofs.weigh.Statement.{statement}
 use Rattle.slots.proofs.weigh.Tie as tie
 
@@ -13,29 +9,17 @@ returns : tie.Need-returns
 unfolding weighed
 returns c = simp (le-ltb (c .before .args .k) 32 (omega arith))
 
-add-result : tie.Need-add-result
-add-result c = search needs
-
 returns-2 : tie.Need-returns-2
 unfolding weighed onwardTo
 returns-2 c =
     let g = c .before .before .args in
     simp (lt-ltb (g .k) 32 (omega arith), eq-eqb (g .s .at) (g .k) (omega arith))
 
-add-result-2 : tie.Need-add-result-2
-add-result-2 c = search needs
-
 returns-3 : tie.Need-returns-3
 unfolding weighed onwardTo
 returns-3 c =
     let g = c .before .before .before .args in
     simp (lt-ltb (g .k) 32 (omega arith), ne-eqb (g .s .at) (g .k) (λ e. omega arith), c .if3 .taken)
-
-add-onward : tie.Need-add-onward
-add-onward c = search needs
-
-meet-code-requires : tie.Need-meet-code-requires
-meet-code-requires c κs = search needs
 
 onward-requires : tie.Need-onward-requires
 onward-requires c κs = subst (λ (n : ℕ). n ≤ 2000) (sym (c .meet-code .ensures)) (meet-few _ _)
@@ -50,15 +34,5 @@ returns-4 c =
     (c .onward .ensures ∙ ap (onwardTo (g .k + 1)) (m .meet-code .ensures))
 
 pub weigh-spec : {M : Type 1} → statement M
-weigh-spec =
-    tie.close
-    (tie.spec
-    returns
-    add-result
-    returns-2
-    add-result-2
-    returns-3
-    add-onward
-    meet-code-requires
-    onward-requires
-    returns-4)
+weigh-spec = tie.close (tie.spec returns (λ c. search needs) returns-2 (λ c. search needs) returns-3 (λ c. search needs) (λ c κs. search needs)
+    onward-requires returns-4)

@@ -1,14 +1,9 @@
 -- `slots::weigh_start` meets its contract. Assumes nothing.
-use mathlib.Core.Path.{sym, ap, subst, _∙_}
-use Prim.Native.Nat.{ℕ, _≤_}
+use Rattle.laws.proofs.Library.{sym, ap, subst, _∙_, ℕ, _≤_, needs}
 use Rattle.slots.specs.Scans.{weighStart, onwardTo}
 use Rattle.slots.proofs.Few.{slot-few}
-use borrow.Author.Needs.{needs}
 use Rattle.slots.proofs.weigh_start.Statement.{statement}
 use Rattle.slots.proofs.weigh_start.Tie as tie
-
-slot-code-requires : tie.Need-slot-code-requires
-slot-code-requires c κs = search needs
 
 onward-requires : tie.Need-onward-requires
 onward-requires c κs = subst (λ (n : ℕ). n ≤ 2000) (sym (c .slot-code .ensures)) (slot-few _)
@@ -21,4 +16,4 @@ returns c =
     ap (λ (n : ℕ). record { from = n; at = g .a; mine = g .r }) (c .onward .ensures ∙ ap (onwardTo 0) (k .slot-code .ensures))
 
 pub weigh-start-spec : {M : Type 1} → statement M
-weigh-start-spec = tie.close (tie.spec slot-code-requires onward-requires returns)
+weigh-start-spec = tie.close (tie.spec (λ c κs. search needs) onward-requires returns)

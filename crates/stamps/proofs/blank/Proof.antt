@@ -1,5 +1,5 @@
 -- `stamps::blank` meets its contract, by computing. Assumes nothing.
-use mathlib.Core.Path.{refl}
+use Rattle.laws.proofs.Library.{refl}
 use Rattle.rules.specs.Stored.{wordsOf, stored, blank}
 use Rattle.stamps.proofs.blank.Statement.{statement}
 use Rattle.stamps.proofs.blank.Tie as tie

@@ -1,9 +1,5 @@
 -- `stamps::compare` meets its contract: an unlawful stamp is refused, and of lawful ones the counted words tell the rest. Assumes nothing.
-use borrow.Author.Needs.{needs}
-use borrow.Author.Tests.{not-true, not-false}
-use mathlib.Core.Path.{_≡_, sym, ap, _∙_}
-use mathlib.Core.List.{[]}
-use native.Mathlib.Omega.{arith}
+use Rattle.laws.proofs.Library.{needs, not-true, not-false, _≡_, sym, ap, _∙_, [], arith}
 use Rattle.rules.specs.Limits.{narrow}
 use Rattle.rules.specs.Stored.{held}
 use Rattle.rules.specs.Refusals.{first}
@@ -23,17 +19,11 @@ refuses : (a b : Record) → Refused Unlawful ≡ first (meeting narrow a b []) 
 unfolding compared
 refuses a b e = ap (λ (m : Answer). told m (Rattle.rules.specs.Stamps.compare (held a) (held b))) e
 
-is-lawful-in-requires : tie.Need-is-lawful-in-requires
-is-lawful-in-requires c κs = search needs
-
 returns : tie.Need-returns
 returns c =
     let l = c .before in
     let g = l .before .before .before .before .before .before .args in
     refuses _ _ (first-unlawful narrow (g .t1) (g .t2) (sym (l .is-lawful-in .ensures) ∙ not-true _ (c .if1 .taken)))
-
-is-lawful-in-requires-2 : tie.Need-is-lawful-in-requires-2
-is-lawful-in-requires-2 c κs = search needs
 
 returns-2 : tie.Need-returns-2
 returns-2 c =
@@ -42,21 +32,6 @@ returns-2 c =
     let l = e .before in
     let g = l .before .before .before .before .before .before .args in
     refuses _ _ (second-unlawful narrow (g .t1) (g .t2) (sym (l .is-lawful-in .ensures) ∙ not-false _ (e .if1 .left)) (sym (m .is-lawful-in2 .ensures) ∙ not-true _ (c .if2 .taken)))
-
-counted-requires : tie.Need-counted-requires
-counted-requires c κs = search needs
-
-counted-requires-2 : tie.Need-counted-requires-2
-counted-requires-2 c κs = search needs
-
-counted-requires-3 : tie.Need-counted-requires-3
-counted-requires-3 c κs = search needs
-
-counted-requires-4 : tie.Need-counted-requires-4
-counted-requires-4 c κs = search needs
-
-compare-requires : tie.Need-compare-requires
-compare-requires c κs = search needs
 
 returns-3 : tie.Need-returns-3
 returns-3 c =
@@ -75,16 +50,5 @@ returns-3 c =
     (sym (m .is-lawful-in2 .ensures) ∙ not-false _ (f .if2 .left))
 
 pub compare-spec : {M : Type 1} → statement M
-compare-spec =
-    tie.close
-    (tie.spec
-    is-lawful-in-requires
-    returns
-    is-lawful-in-requires-2
-    returns-2
-    counted-requires
-    counted-requires-2
-    counted-requires-3
-    counted-requires-4
-    compare-requires
-    returns-3)
+compare-spec = tie.close (tie.spec (λ c κs. search needs) returns (λ c κs. search needs) returns-2 (λ c κs. search needs) (λ c κs. search needs)
+    (λ c κs. search needs) (λ c κs. search needs) (λ c κs. search needs) returns-3)

@@ -1,13 +1,5 @@
 -- `stamps::fork` meets its contract: the tests in their order, a stored update kept as it is, and the id grown by 0 and by 1. Assumes nothing.
-use borrow.Author.Needs.{needs}
-use borrow.Author.Tests.{not-true, not-false}
-use mathlib.Core.Path.{_≡_, sym, ap, _∙_}
-use mathlib.Core.Bool.{Bool, true, false}
-use mathlib.Core.List.{List}
-use native.Mathlib.Omega.{arith}
-use Prim.Native.Nat.{ℕ}
-use lib.Dec.{eqb}
-use lib.ListN.{length, take, replicate}
+use Rattle.laws.proofs.Library.{needs, not-true, not-false, _≡_, sym, ap, _∙_, Bool, true, false, List, arith, ℕ, eqb, length, take, replicate}
 use Rattle.rules.specs.Limits.{Limits, narrow}
 use Rattle.rules.specs.Strings.{digit}
 use Rattle.rules.specs.Names.{any}
@@ -66,34 +58,16 @@ module _ (n : tie.After-is-long) where
   grown short d out =
       grown-branch narrow (omega arith) (r .id) d (k .counted .result .now) out (stored-names narrow r lawful .1) short (k .counted .ensures .1)
 
-is-lawful-in-requires : tie.Need-is-lawful-in-requires
-is-lawful-in-requires c κs = search needs
-
-no-fork-requires : tie.Need-no-fork-requires
-no-fork-requires c κs = search needs
-
 returns : tie.Need-returns
 returns c =
     let l = c .before .before in
     let g = l .before .before .before .before .before .before in
     first-refused narrow (g .args .t1) (c .no-fork .result) (sym (l .is-lawful-in .ensures) ∙ not-true _ (c .before .if1 .taken)) (c .no-fork .ensures)
 
-counted-requires : tie.Need-counted-requires
-counted-requires c κs = search needs
-
-is-long-requires : tie.Need-is-long-requires
-is-long-requires c κs = search needs
-
-no-fork-requires-2 : tie.Need-no-fork-requires-2
-no-fork-requires-2 c κs = search needs
-
 returns-2 : tie.Need-returns-2
 returns-2 c =
     let n = c .before .before in
     then-refused narrow (r n) (c .no-fork2 .result) (lawful n) (sym (long-is n) ∙ c .before .if2 .taken) (c .no-fork2 .ensures)
-
-grow-requires : tie.Need-grow-requires
-grow-requires c κs = search needs
 
 returns-3 : tie.Need-returns-3
 returns-3 c =
@@ -104,15 +78,5 @@ returns-3 c =
     forked-is narrow (r n) _ _ (lawful n) short (grown n short false _ (o .grow .ensures .0)) (grown n short true _ (o .grow .ensures .1))
 
 pub fork-spec : {M : Type 1} → statement M
-fork-spec =
-    tie.close
-    (tie.spec
-    is-lawful-in-requires
-    no-fork-requires
-    returns
-    counted-requires
-    is-long-requires
-    no-fork-requires-2
-    returns-2
-    grow-requires
-    returns-3)
+fork-spec = tie.close (tie.spec (λ c κs. search needs) (λ c κs. search needs) returns (λ c κs. search needs) (λ c κs. search needs)
+    (λ c κs. search needs) returns-2 (λ c κs. search needs) returns-3)

@@ -1,13 +1,10 @@
 -- `stamps::is_lawful` meets its contract: the words of both names are asked, each with its count. Assumes nothing.
-use borrow.Author.Needs.{needs}
+use Rattle.laws.proofs.Library.{needs}
 use Rattle.stamps.proofs.is_lawful.Statement.{statement}
 use Rattle.stamps.proofs.is_lawful.Tie as tie
-
-is-lawful-in-requires : tie.Need-is-lawful-in-requires
-is-lawful-in-requires c κs = search needs
 
 returns : tie.Need-returns
 returns c = c .is-lawful-in .ensures
 
 pub is-lawful-spec : {M : Type 1} → statement M
-is-lawful-spec = tie.close (tie.spec is-lawful-in-requires returns)
+is-lawful-spec = tie.close (tie.spec (λ c κs. search needs) returns)

@@ -1,7 +1,5 @@
 -- `stamps::is_lawful_in` meets its contract: the four parts of a stored record, one after the other. Assumes nothing.
-use borrow.Author.Needs.{needs}
-use mathlib.Core.Path.{_≡_, refl, sym, ap, _∙_}
-use mathlib.Core.Bool.{Bool, true, false, not}
+use Rattle.laws.proofs.Library.{needs, _≡_, refl, sym, ap, _∙_, Bool, true, false, not}
 use Rattle.rules.specs.Limits.{narrow}
 use Rattle.rules.specs.Names.{below}
 use Rattle.rules.specs.Stamps.{isNone, pair}
@@ -41,24 +39,6 @@ module _ (r : Record) where
 
 abbrev given : tie.Start → Record
 given g = record { update = record { count = g .args .uc; words = g .args .u .now }; id = record { count = g .args .ic; words = g .args .i .now } }
-
-is-name-in-requires : tie.Need-is-name-in-requires
-is-name-in-requires c κs = search needs
-
-is-name-in-requires-2 : tie.Need-is-name-in-requires-2
-is-name-in-requires-2 c κs = search needs
-
-counted-requires : tie.Need-counted-requires
-counted-requires c κs = search needs
-
-counted-requires-2 : tie.Need-counted-requires-2
-counted-requires-2 c κs = search needs
-
-is-below-requires : tie.Need-is-below-requires
-is-below-requires c κs = search needs
-
-has-twins-requires : tie.Need-has-twins-requires
-has-twins-requires c κs = search needs
 
 -- the answers of the calls before the walks, where both names are stored
 module _ (b : tie.After-is-below) where
@@ -107,16 +87,5 @@ returns-4 c =
     no-update (given (u .before .before .before)) (sym (u .is-name-in .ensures) ∙ c .if1 .left)
 
 pub is-lawful-in-spec : {M : Type 1} → statement M
-is-lawful-in-spec =
-    tie.close
-    (tie.spec
-    is-name-in-requires
-    is-name-in-requires-2
-    counted-requires
-    counted-requires-2
-    is-below-requires
-    has-twins-requires
-    returns
-    returns-2
-    returns-3
-    returns-4)
+is-lawful-in-spec = tie.close (tie.spec (λ c κs. search needs) (λ c κs. search needs) (λ c κs. search needs) (λ c κs. search needs)
+    (λ c κs. search needs) (λ c κs. search needs) returns returns-2 returns-3 returns-4)

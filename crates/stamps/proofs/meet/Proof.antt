@@ -1,8 +1,5 @@
 -- `stamps::meet` meets its contract: an unlawful stamp is refused, and of lawful ones the counted words tell the rest. Assumes nothing.
-use borrow.Author.Needs.{needs}
-use borrow.Author.Tests.{not-true, not-false}
-use mathlib.Core.Path.{sym, _∙_}
-use native.Mathlib.Omega.{arith}
+use Rattle.laws.proofs.Library.{needs, not-true, not-false, sym, _∙_, arith}
 use Rattle.rules.specs.Limits.{narrow}
 use Rattle.walks.specs.Walks.{meetWalk}
 use Rattle.walks.proofs.Meets.{meet-walk}
@@ -10,17 +7,11 @@ use Rattle.stamps.proofs.Laws.{first-unlawful, second-unlawful}
 use Rattle.stamps.proofs.meet.Statement.{statement}
 use Rattle.stamps.proofs.meet.Tie as tie
 
-is-lawful-in-requires : tie.Need-is-lawful-in-requires
-is-lawful-in-requires c κs = search needs
-
 returns : tie.Need-returns
 returns c =
     let l = c .before in
     let g = l .before .before .before .before .before .before .args in
     first-unlawful narrow (g .t1) (g .t2) (sym (l .is-lawful-in .ensures) ∙ not-true _ (c .if1 .taken))
-
-is-lawful-in-requires-2 : tie.Need-is-lawful-in-requires-2
-is-lawful-in-requires-2 c κs = search needs
 
 returns-2 : tie.Need-returns-2
 returns-2 c =
@@ -29,21 +20,6 @@ returns-2 c =
     let l = e .before in
     let g = l .before .before .before .before .before .before .args in
     second-unlawful narrow (g .t1) (g .t2) (sym (l .is-lawful-in .ensures) ∙ not-false _ (e .if1 .left)) (sym (m .is-lawful-in2 .ensures) ∙ not-true _ (c .if2 .taken))
-
-counted-requires : tie.Need-counted-requires
-counted-requires c κs = search needs
-
-counted-requires-2 : tie.Need-counted-requires-2
-counted-requires-2 c κs = search needs
-
-counted-requires-3 : tie.Need-counted-requires-3
-counted-requires-3 c κs = search needs
-
-counted-requires-4 : tie.Need-counted-requires-4
-counted-requires-4 c κs = search needs
-
-meet-requires : tie.Need-meet-requires
-meet-requires c κs = search needs
 
 returns-3 : tie.Need-returns-3
 returns-3 c =
@@ -62,16 +38,5 @@ returns-3 c =
     (sym (m .is-lawful-in2 .ensures) ∙ not-false _ (f .if2 .left))
 
 pub meet-spec : {M : Type 1} → statement M
-meet-spec =
-    tie.close
-    (tie.spec
-    is-lawful-in-requires
-    returns
-    is-lawful-in-requires-2
-    returns-2
-    counted-requires
-    counted-requires-2
-    counted-requires-3
-    counted-requires-4
-    meet-requires
-    returns-3)
+meet-spec = tie.close (tie.spec (λ c κs. search needs) returns (λ c κs. search needs) returns-2 (λ c κs. search needs) (λ c κs. search needs)
+    (λ c κs. search needs) (λ c κs. search needs) (λ c κs. search needs) returns-3)

@@ -1,7 +1,5 @@
 -- `stamps::update` meets its contract: a stored id is its own stored shape. Assumes nothing.
-use borrow.Author.Needs.{needs}
-use mathlib.Core.Path.{_≡_, sym, ap, _∙_}
-use mathlib.Core.Bool.{true, false}
+use Rattle.laws.proofs.Library.{needs, _≡_, sym, ap, _∙_, true, false}
 use Rattle.rules.specs.Limits.{Limits, narrow}
 use Rattle.rules.specs.Stored.{isStored, unlawful, blank}
 use Rattle.rules.specs.Refusals.{first}
@@ -17,14 +15,8 @@ refused : (L : Limits) (r : Record) (z : Record) → isStored L r ≡ false → 
 unfolding updated first unlawful
 refused L r z e b = rw e (ap (λ (x : Record). record { answer = Refused Unlawful; stamp = x }) b)
 
-is-lawful-in-requires : tie.Need-is-lawful-in-requires
-is-lawful-in-requires c κs = search needs
-
 returns : tie.Need-returns
 returns c = let a = c .before .before in updated-is narrow (a .before .before .before .before .before .before .args .t1) (sym (a .is-lawful-in .ensures) ∙ c .before .if1 .taken)
-
-blank-requires : tie.Need-blank-requires
-blank-requires c κs = search needs
 
 returns-2 : tie.Need-returns-2
 returns-2 c =
@@ -32,4 +24,4 @@ returns-2 c =
     refused narrow (a .before .before .before .before .before .before .args .t1) (c .blank .result) (sym (a .is-lawful-in .ensures) ∙ c .before .if1 .left) (c .blank .ensures)
 
 pub update-spec : {M : Type 1} → statement M
-update-spec = tie.close (tie.spec is-lawful-in-requires returns blank-requires returns-2)
+update-spec = tie.close (tie.spec (λ c κs. search needs) returns (λ c κs. search needs) returns-2)

@@ -1,23 +1,10 @@
 -- `strings::are_siblings` meets its contract: strings of one length that share all digits but one. Assumes nothing.
-use borrow.Author.Needs.{needs}
-use borrow.Author.Tests.{eq-eqb, ne-eqb}
-use mathlib.Core.Path.{_≡_, refl}
-use native.Mathlib.Omega.{arith}
-use Prim.Native.Nat.{_%_}
+use Rattle.laws.proofs.Library.{needs, eq-eqb, ne-eqb, _≡_, refl, arith, _%_}
 use Rattle.rules.specs.Strings.{common, field}
 use Rattle.laws.proofs.Bits.{field-length}
 use Rattle.laws.proofs.Words.{common-le, siblings-words}
 use Rattle.strings.proofs.are_siblings.Statement.{statement}
 use Rattle.strings.proofs.are_siblings.Tie as tie
-
-cast-m : tie.Need-cast-m
-cast-m c = search needs
-
-cast-n : tie.Need-cast-n
-cast-n c = search needs
-
-shared-requires : tie.Need-shared-requires
-shared-requires c κs = search needs
 
 add-result : tie.Need-add-result
 add-result c =
@@ -37,4 +24,4 @@ returns-2 c =
     simp (ne-eqb _ _ h) at (siblings-words (g .a) (g .b) (common (field 64 (g .a)) (field 64 (g .b))) refl)
 
 pub are-siblings-spec : {M : Type 1} → statement M
-are-siblings-spec = tie.close (tie.spec cast-m cast-n shared-requires add-result returns returns-2)
+are-siblings-spec = tie.close (tie.spec (λ c. search needs) (λ c. search needs) (λ c κs. search needs) add-result returns returns-2)

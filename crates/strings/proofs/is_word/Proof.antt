@@ -1,19 +1,10 @@
 -- `strings::is_word` meets its contract: with the length taken off, what stands behind the digits is moved up over the word's end.
 -- Assumes nothing.
-use borrow.Author.Needs.{needs}
-use borrow.Author.Tests.{le-leb, lt-leb}
-use native.Mathlib.Omega.{arith}
-use Prim.Native.Nat.{_%_, _≤_, _<_}
+use Rattle.laws.proofs.Library.{needs, le-leb, lt-leb, arith, _%_, _≤_, _<_}
 use Rattle.rules.specs.Limits.{narrow}
 use Rattle.laws.proofs.Words.{is-word}
 use Rattle.strings.proofs.is_word.Statement.{statement}
 use Rattle.strings.proofs.is_word.Tie as tie
-
-sub-result : tie.Need-sub-result
-sub-result c = search needs
-
-shl-result : tie.Need-shl-result
-shl-result c = search needs
 
 returns : tie.Need-returns
 returns c =
@@ -28,4 +19,4 @@ returns-2 c =
     simp (lt-leb _ _ h) at (is-word (narrow .digits) w (omega arith) (c .before .fits .w .fits))
 
 pub is-word-spec : {M : Type 1} → statement M
-is-word-spec = tie.close (tie.spec sub-result shl-result returns returns-2)
+is-word-spec = tie.close (tie.spec (λ c. search needs) (λ c. search needs) returns returns-2)

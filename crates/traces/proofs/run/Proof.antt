@@ -8,7 +8,7 @@ use Rattle.frames.proofs.Walk.{deaths, frame-of, var, piece, sets, leaves, rele
 use Rattle.frames.proofs.Walk.{Loop, Turn, whiles, tests, sets-last, turns-to, forgets}
 use Rattle.frames.proofs.Arrays.{unrolls, rolls, var₁, piece₁}
 use Rattle.frames.proofs.Rows.{Good, typed}
-use Prim.Native.Nat.{_*_, _/_}
+use Rattle.laws.proofs.Library.{_*_, _/_}
 use base.Fml.{fat}
 use prog.Wp.{spotOf}
 use types.Kit.{put}

@@ -1,10 +1,5 @@
 -- `unions::copy` meets its contract: the words before index i are stored, and those from i on are to come. Assumes nothing.
-use mathlib.Core.Path.{_≡_, refl, sym, ap, _∙_}
-use Prim.Native.Nat.{_+_, _-_, _≤_, _<_}
-use native.Mathlib.Omega.{arith}
-use borrow.Author.Needs.{needs}
-use lib.ListN.{length, drop, drop-of-length-le}
-use lib.Seq.{sets}
+use Rattle.laws.proofs.Library.{_≡_, refl, sym, ap, _∙_, _+_, _-_, _≤_, _<_, arith, needs, length, drop, drop-of-length-le, sets}
 use Rattle.unions.proofs.Stores.{copy-step, drop-more}
 use Rattle.unions.proofs.copy.Statement.{statement}
 use Rattle.unions.proofs.copy.Tie as tie
@@ -16,15 +11,6 @@ Inv-loop out₀ at m from k₀ i₀ out k i =
 
 abbrev μ-loop : tie.MeasureT-loop
 μ-loop out₀ at m from k₀ i₀ out k i = length m - i
-
-loop-holds : tie.Need-loop-holds Inv-loop μ-loop
-loop-holds c = (search needs, refl, refl, refl)
-
-mul-out : tie.Need-mul-out Inv-loop μ-loop
-mul-out c = search needs
-
-shared-slice-read-out : tie.Need-shared-slice-read-out Inv-loop μ-loop
-shared-slice-read-out c = search needs
 
 mul-out-2 : tie.Need-mul-out-2 Inv-loop μ-loop
 mul-out-2 c =
@@ -44,12 +30,6 @@ add-k c =
     let room : l .loop .k < length (l .loop .out) = omega (arith, drop-more (l .before .args .m .now) (l .loop .i) (omega arith)) in
     search needs
 
-add-i : tie.Need-add-i Inv-loop μ-loop
-add-i c = search needs
-
-loop-less : tie.Need-loop-less Inv-loop μ-loop
-loop-less c = search needs
-
 loop-again : tie.Need-loop-again Inv-loop μ-loop
 loop-again c =
     let l = c .before .before in
@@ -60,9 +40,6 @@ loop-again c =
       copy-step m (l .loop .out) (l .loop .k) (l .loop .i) (omega arith) ∙ l .loop .inv .3,
     )
 
-same-length : tie.Need-same-length Inv-loop μ-loop
-same-length c = search needs
-
 returns : tie.Need-returns Inv-loop μ-loop
 returns c =
     let l = c .before in
@@ -71,19 +48,5 @@ returns c =
     (omega (arith, ap length none), ap (sets (l .loop .out) (l .loop .k)) (sym none) ∙ l .loop .inv .3)
 
 pub copy-spec : {M : Type 1} → statement M
-copy-spec =
-    tie.close
-    (tie.spec
-    Inv-loop
-    μ-loop
-    loop-holds
-    mul-out
-    shared-slice-read-out
-    mul-out-2
-    slice-write-out
-    add-k
-    add-i
-    loop-less
-    loop-again
-    same-length
-    returns)
+copy-spec = tie.close (tie.spec Inv-loop μ-loop (λ c. (search needs, refl, refl, refl)) (λ c. search needs) (λ c. search needs) mul-out-2
+    slice-write-out add-k (λ c. search needs) (λ c. search needs) loop-again (λ c. search needs) returns)

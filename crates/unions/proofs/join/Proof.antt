@@ -1,16 +1,7 @@
 -- `unions::join` meets its contract: where both buffers have room its four parts, one after the other, are the definition, since none of them leaves
 -- more words than it is given. Assumes nothing.
-use mathlib.Core.Path.{_≡_, refl, ap, ap₂, _∙_}
-use mathlib.Core.Bool.{true, false, and-false}
-use mathlib.Core.List.{List}
-use mathlib.Core.Logic.{_⊎_, inl, inr, ⊎-elim}
-use Prim.Native.Nat.{ℕ, _+_, _≤_, _<_}
-use native.Mathlib.Omega.{arith}
-use borrow.Author.Needs.{needs}
-use borrow.Author.Tests.{le-leb, lt-leb, ltb-true, ltb-false}
-use lib.Dec.{leb}
-use lib.ListN.{length, take, drop}
-use lib.Seq.{take-at, length-take-le}
+use Rattle.laws.proofs.Library.{_≡_, refl, ap, ap₂, _∙_, true, false, and-false, List, _⊎_, inl, inr, ⊎-elim, ℕ, _+_, _≤_, _<_, arith, needs, le-leb}
+use Rattle.laws.proofs.Library.{lt-leb, ltb-true, ltb-false, leb, length, take, drop, take-at, length-take-le}
 use Rattle.rules.specs.Packed.{over}
 use Rattle.laws.proofs.Tests.{and-both}
 use Rattle.unions.specs.Unions.{cleared, merge, reduced, lifted, joinedId, joinedUpdate, canJoin, joinedCounts, joinedUpdateIn, joinedIdIn}
@@ -104,23 +95,11 @@ module _ (c : tie.After-unite2) where
       let g = start e in
       omega (arith, c .unite2 .ensures .0, c .unite2 .kept .1 .1 .0, merge-few (g .args .u .now) (g .args .v .now), update-room e)
 
-add-if1 : tie.Need-add-if1
-add-if1 c = search needs
-
-add-if2 : tie.Need-add-if2
-add-if2 c = search needs
-
 returns : tie.Need-returns
 returns c =
     let g = c .before .before .before .before .before .before .before .args in
     none (g .u .now) (g .i .now) (g .v .now) (g .j .now) (g .update .now) (g .id .now)
     (⊎-elim (λ h. inl (h .taken)) (λ h. inr (ltb-true _ _ (h .1 .taken))) (c .if1 .came))
-
-unite-requires : tie.Need-unite-requires
-unite-requires c κs = id-room (c .before)
-
-reduce-requires : tie.Need-reduce-requires
-reduce-requires c κs = united-room (c .before .before .before)
 
 unite-requires-2 : tie.Need-unite-requires-2
 unite-requires-2 c κs = update-room (ids (c .before .before .before) .before .before)
@@ -132,15 +111,6 @@ slice-aggregate-lift : tie.Need-slice-aggregate-lift
 slice-aggregate-lift c =
     let r = c .before .before .before .before .before .before .before in
     omega (arith, length-take-le (r .reduce .result) (r .reduce .last .0) (reduced-left r))
-
-lift-requires : tie.Need-lift-requires
-lift-requires c κs = updates-room (c .before .before .before .before)
-
-same-length : tie.Need-same-length
-same-length c = search needs
-
-same-length-2 : tie.Need-same-length-2
-same-length-2 c = search needs
 
 returns-2 : tie.Need-returns-2
 returns-2 c =
@@ -157,18 +127,6 @@ returns-2 c =
     (p .unite2 .ensures .0) (p .unite2 .ensures .1) (l .lift .ensures .0) (l .lift .ensures .1)
 
 pub join-spec : {M : Type 1} → statement M
-join-spec =
-    tie.close
-    (tie.spec
-    add-if1
-    add-if2
-    returns
-    unite-requires
-    reduce-requires
-    unite-requires-2
-    slice-reshare-prefix-lift
-    slice-aggregate-lift
-    lift-requires
-    same-length
-    same-length-2
-    returns-2)
+join-spec = tie.close (tie.spec (λ c. search needs) (λ c. search needs) returns (λ c κs. id-room (c .before))
+    (λ c κs. united-room (c .before .before .before)) unite-requires-2 slice-reshare-prefix-lift slice-aggregate-lift
+    (λ c κs. updates-room (c .before .before .before .before)) (λ c. search needs) (λ c. search needs) returns-2)

@@ -1,11 +1,6 @@
 -- `unions::lift` meets its contract. The loop's invariant: what the words to come become beside the id's words from j on, put behind the first k words,
 -- is what all words become beside the whole id. The measure is how many are to come. Assumes nothing.
-use mathlib.Core.Path.{_≡_, refl, _∙_}
-use mathlib.Core.List.{[]}
-use Prim.Native.Nat.{_-_, _≤_}
-use native.Mathlib.Omega.{arith}
-use borrow.Author.Needs.{needs}
-use lib.ListN.{length, take, drop}
+use Rattle.laws.proofs.Library.{_≡_, refl, _∙_, [], _-_, _≤_, arith, needs, length, take, drop}
 use Rattle.unions.specs.Unions.{stack, lift, lifted}
 use Rattle.unions.proofs.Stacks.{turn-clears}
 use Rattle.unions.proofs.Seeks.{onceAll, lift-more, lift-end}
@@ -24,27 +19,6 @@ loop-holds : tie.Need-loop-holds Inv-loop μ-loop
 unfolding stack
 loop-holds c = (search needs, search needs, search needs, refl, refl, refl)
 
-mul-r : tie.Need-mul-r Inv-loop μ-loop
-mul-r c = search needs
-
-slice-read-r : tie.Need-slice-read-r Inv-loop μ-loop
-slice-read-r c = search needs
-
-seek-requires : tie.Need-seek-requires Inv-loop μ-loop
-seek-requires c κs = search needs
-
-root-requires : tie.Need-root-requires Inv-loop μ-loop
-root-requires c κs = search needs
-
-put-once-requires : tie.Need-put-once-requires Inv-loop μ-loop
-put-once-requires c κs = search needs
-
-add-i : tie.Need-add-i Inv-loop μ-loop
-add-i c = search needs
-
-loop-less : tie.Need-loop-less Inv-loop μ-loop
-loop-less c = search needs
-
 loop-again : tie.Need-loop-again Inv-loop μ-loop
 loop-again c =
     let p = c .before .before in
@@ -57,12 +31,6 @@ loop-again c =
     (p .put-once .result) (l .loop .i) (x .root .result) (omega arith) (omega arith) (l .loop .inv .4) (f .seek .ensures .1) (x .root .ensures)
     (p .put-once .ensures .1) (p .put-once .ensures .2) in
     (omega (arith, p .put-once .ensures .0), search needs, f .seek .ensures .0, p .put-once .kept .0 ∙ l .loop .inv .3, more .0, more .1 ∙ l .loop .inv .5)
-
-clear-requires : tie.Need-clear-requires Inv-loop μ-loop
-clear-requires c κs = search needs
-
-same-length : tie.Need-same-length Inv-loop μ-loop
-same-length c = search needs
 
 returns : tie.Need-returns Inv-loop μ-loop
 returns c =
@@ -78,20 +46,5 @@ returns c =
     (p .clear .ensures)
 
 pub lift-spec : {M : Type 1} → statement M
-lift-spec =
-    tie.close
-    (tie.spec
-    Inv-loop
-    μ-loop
-    loop-holds
-    mul-r
-    slice-read-r
-    seek-requires
-    root-requires
-    put-once-requires
-    add-i
-    loop-less
-    loop-again
-    clear-requires
-    same-length
-    returns)
+lift-spec = tie.close (tie.spec Inv-loop μ-loop loop-holds (λ c. search needs) (λ c. search needs) (λ c κs. search needs) (λ c κs. search needs)
+    (λ c κs. search needs) (λ c. search needs) (λ c. search needs) loop-again (λ c κs. search needs) (λ c. search needs) returns)

@@ -1,13 +1,6 @@
 -- `unions::push` meets its contract. The loop's invariant: the word in hand pushed on what is left of the stack is s pushed on all of it.
 -- The measure is how many words are left. Assumes nothing.
-use mathlib.Core.Path.{_≡_, refl, sym, _∙_}
-use mathlib.Core.Logic.{inl, inr, ⊎-elim}
-use Prim.Native.Nat.{_+_, _-_, _≤_}
-use native.Mathlib.Omega.{arith}
-use borrow.Author.Needs.{needs}
-use borrow.Author.Tests.{not-true, not-false}
-use lib.ListN.{getD}
-use lib.Seq.{drop-set-lt}
+use Rattle.laws.proofs.Library.{_≡_, refl, sym, _∙_, inl, inr, ⊎-elim, _+_, _-_, _≤_, arith, needs, not-true, not-false, getD, drop-set-lt}
 use Rattle.unions.specs.Unions.{push, stack}
 use Rattle.unions.proofs.Stacks.{siblings-filled, push-again, push-ends, stack-put}
 use Rattle.unions.proofs.push.Statement.{statement}
@@ -19,32 +12,11 @@ Inv-loop id k s x₀ top₀ x top = (top ≤ k) × (push x (stack id top) ≡ pu
 abbrev μ-loop : tie.MeasureT-loop
 μ-loop id k s x₀ top₀ x top = top
 
-loop-holds : tie.Need-loop-holds Inv-loop μ-loop
-loop-holds c = (search needs, refl)
-
-sub-t : tie.Need-sub-t Inv-loop μ-loop
-sub-t c = search needs
-
-mul-t : tie.Need-mul-t Inv-loop μ-loop
-mul-t c = search needs
-
-slice-read-t : tie.Need-slice-read-t Inv-loop μ-loop
-slice-read-t c = search needs
-
-are-siblings-requires : tie.Need-are-siblings-requires Inv-loop μ-loop
-are-siblings-requires c κs = search needs
-
 sub-x : tie.Need-sub-x Inv-loop μ-loop
 sub-x c =
     let a = c .before in
     let l = a .before .before .before in
     siblings-filled (getD (l .before .before .args .id .now) (l .loop .top - 1) 0) _ (sym (a .are-siblings .ensures) ∙ not-false _ (c .if1 .left))
-
-sub-top : tie.Need-sub-top Inv-loop μ-loop
-sub-top c = search needs
-
-loop-less : tie.Need-loop-less Inv-loop μ-loop
-loop-less c = search needs
 
 loop-again : tie.Need-loop-again Inv-loop μ-loop
 loop-again c =
@@ -54,18 +26,6 @@ loop-again c =
       search needs,
       push-again d (l .loop .x) (l .loop .top) (omega arith) (sym (a .are-siblings .ensures) ∙ not-false _ (c .if1 .left)) ∙ l .loop .inv .1,
     )
-
-mul-id : tie.Need-mul-id Inv-loop μ-loop
-mul-id c = search needs
-
-slice-write-id : tie.Need-slice-write-id Inv-loop μ-loop
-slice-write-id c = search needs
-
-add-result : tie.Need-add-result Inv-loop μ-loop
-add-result c = search needs
-
-same-length : tie.Need-same-length Inv-loop μ-loop
-same-length c = search needs
 
 returns : tie.Need-returns Inv-loop μ-loop
 returns c =
@@ -81,22 +41,6 @@ returns c =
     )
 
 pub push-spec : {M : Type 1} → statement M
-push-spec =
-    tie.close
-    (tie.spec
-    Inv-loop
-    μ-loop
-    loop-holds
-    sub-t
-    mul-t
-    slice-read-t
-    are-siblings-requires
-    sub-x
-    sub-top
-    loop-less
-    loop-again
-    mul-id
-    slice-write-id
-    add-result
-    same-length
-    returns)
+push-spec = tie.close (tie.spec Inv-loop μ-loop (λ c. (search needs, refl)) (λ c. search needs) (λ c. search needs) (λ c. search needs)
+    (λ c κs. search needs) sub-x (λ c. search needs) (λ c. search needs) loop-again (λ c. search needs) (λ c. search needs) (λ c. search needs)
+    (λ c. search needs) returns)

@@ -1,11 +1,6 @@
 -- `unions::reduce` meets its contract. The loop's invariant: the words to come pushed on the stack are all words pushed on none. The stack never
 -- overtakes the reader, so the words to come are as they were. The measure is how many are to come. Assumes nothing.
-use mathlib.Core.Path.{_≡_, refl, _∙_}
-use mathlib.Core.List.{[]}
-use Prim.Native.Nat.{_-_, _≤_}
-use native.Mathlib.Omega.{arith}
-use borrow.Author.Needs.{needs}
-use lib.ListN.{length, take, drop}
+use Rattle.laws.proofs.Library.{_≡_, refl, _∙_, [], _-_, _≤_, arith, needs, length, take, drop}
 use Rattle.unions.specs.Unions.{pushAll, reduced, stack}
 use Rattle.unions.proofs.Stacks.{turn-more, turn-end, turn-clears}
 use Rattle.unions.proofs.reduce.Statement.{statement}
@@ -23,21 +18,6 @@ loop-holds : tie.Need-loop-holds Inv-loop μ-loop
 unfolding stack
 loop-holds c = (search needs, search needs, refl, refl, refl)
 
-mul-s : tie.Need-mul-s Inv-loop μ-loop
-mul-s c = search needs
-
-slice-read-s : tie.Need-slice-read-s Inv-loop μ-loop
-slice-read-s c = search needs
-
-push-requires : tie.Need-push-requires Inv-loop μ-loop
-push-requires c κs = search needs
-
-add-i : tie.Need-add-i Inv-loop μ-loop
-add-i c = search needs
-
-loop-less : tie.Need-loop-less Inv-loop μ-loop
-loop-less c = search needs
-
 loop-again : tie.Need-loop-again Inv-loop μ-loop
 loop-again c =
     let p = c .before .before in
@@ -50,9 +30,6 @@ loop-again c =
 
 clear-requires : tie.Need-clear-requires Inv-loop μ-loop
 clear-requires c κs = let l = c .before .before in (omega arith, omega (arith, l .loop .inv .2))
-
-same-length : tie.Need-same-length Inv-loop μ-loop
-same-length c = search needs
 
 returns : tie.Need-returns Inv-loop μ-loop
 returns c =
@@ -67,18 +44,5 @@ returns c =
     (p .clear .ensures)
 
 pub reduce-spec : {M : Type 1} → statement M
-reduce-spec =
-    tie.close
-    (tie.spec
-    Inv-loop
-    μ-loop
-    loop-holds
-    mul-s
-    slice-read-s
-    push-requires
-    add-i
-    loop-less
-    loop-again
-    clear-requires
-    same-length
-    returns)
+reduce-spec = tie.close (tie.spec Inv-loop μ-loop loop-holds (λ c. search needs) (λ c. search needs) (λ c κs. search needs) (λ c. search needs)
+    (λ c. search needs) loop-again clear-requires (λ c. search needs) returns)

@@ -1,15 +1,8 @@
 -- `unions::root` meets its contract: one case with a lower word, one with a word that is not lower, and one without a word. Assumes nothing.
-use native.Mathlib.Omega.{arith}
-use borrow.Author.Needs.{needs}
+use Rattle.laws.proofs.Library.{arith, needs}
 use Rattle.unions.proofs.Seeks.{root-here, root-self, root-end}
 use Rattle.unions.proofs.root.Statement.{statement}
 use Rattle.unions.proofs.root.Tie as tie
-
-mul-t : tie.Need-mul-t
-mul-t c = search needs
-
-shared-slice-read-t : tie.Need-shared-slice-read-t
-shared-slice-read-t c = search needs
 
 returns : tie.Need-returns
 returns c =
@@ -25,4 +18,4 @@ returns-3 : tie.Need-returns-3
 returns-3 c = let g = c .before .args in root-end (g .id .now) (g .j) (g .r) (omega arith)
 
 pub root-spec : {M : Type 1} → statement M
-root-spec = tie.close (tie.spec mul-t shared-slice-read-t returns returns-2 returns-3)
+root-spec = tie.close (tie.spec (λ c. search needs) (λ c. search needs) returns returns-2 returns-3)

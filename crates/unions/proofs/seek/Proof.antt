@@ -1,11 +1,5 @@
 -- `unions::seek` meets its contract: the words before index i are passed over, so what is sought from i on is what is sought from j on. Assumes nothing.
-use mathlib.Core.Path.{_≡_, refl, sym, _∙_}
-use mathlib.Core.Logic.{inl, inr}
-use Prim.Native.Nat.{_-_, _≤_}
-use native.Mathlib.Omega.{arith}
-use borrow.Author.Needs.{needs}
-use borrow.Author.Tests.{ltb-true, ltb-false, not-true, not-false}
-use lib.ListN.{length, drop}
+use Rattle.laws.proofs.Library.{_≡_, refl, sym, _∙_, inl, inr, _-_, _≤_, arith, needs, ltb-true, ltb-false, not-true, not-false, length, drop}
 use Rattle.unions.specs.Unions.{seek}
 use Rattle.unions.proofs.Seeks.{seek-next, seek-stop, seek-end}
 use Rattle.unions.proofs.seek.Statement.{statement}
@@ -16,30 +10,6 @@ Inv-loop id j r i₀ i = (i ≤ length id) × (seek (drop i id) r ≡ seek (drop
 
 abbrev μ-loop : tie.MeasureT-loop
 μ-loop id j r i₀ i = length id - i
-
-loop-holds : tie.Need-loop-holds Inv-loop μ-loop
-loop-holds c = (search needs, refl)
-
-mul-if1 : tie.Need-mul-if1 Inv-loop μ-loop
-mul-if1 c = search needs
-
-shared-slice-read-if1 : tie.Need-shared-slice-read-if1 Inv-loop μ-loop
-shared-slice-read-if1 c = search needs
-
-mul-begins : tie.Need-mul-begins Inv-loop μ-loop
-mul-begins c = search needs
-
-shared-slice-read-begins : tie.Need-shared-slice-read-begins Inv-loop μ-loop
-shared-slice-read-begins c = search needs
-
-begins-requires : tie.Need-begins-requires Inv-loop μ-loop
-begins-requires c κs = search needs
-
-add-i : tie.Need-add-i Inv-loop μ-loop
-add-i c = search needs
-
-loop-less : tie.Need-loop-less Inv-loop μ-loop
-loop-less c = search needs
 
 loop-again : tie.Need-loop-again Inv-loop μ-loop
 loop-again c =
@@ -75,20 +45,5 @@ returns-3 c =
     (l .loop .inv .0, sym (seek-end (g .id .now) (l .loop .i) (g .r) (omega arith)) ∙ l .loop .inv .1)
 
 pub seek-spec : {M : Type 1} → statement M
-seek-spec =
-    tie.close
-    (tie.spec
-    Inv-loop
-    μ-loop
-    loop-holds
-    mul-if1
-    shared-slice-read-if1
-    mul-begins
-    shared-slice-read-begins
-    begins-requires
-    add-i
-    loop-less
-    loop-again
-    returns
-    returns-2
-    returns-3)
+seek-spec = tie.close (tie.spec Inv-loop μ-loop (λ c. (search needs, refl)) (λ c. search needs) (λ c. search needs) (λ c. search needs)
+    (λ c. search needs) (λ c κs. search needs) (λ c. search needs) (λ c. search needs) loop-again returns returns-2 returns-3)

@@ -1,14 +1,7 @@
 -- `unions::unite` meets its contract. The loop's invariant: what the words to come make of the buffer is what all of them make of it at the start.
 -- The measure is how many are to come. Assumes nothing.
-use mathlib.Core.Path.{_≡_, refl, sym, ap, _∙_}
-use mathlib.Core.List.{List}
-use mathlib.Core.Logic.{inl, inr, ⊎-elim}
-use Prim.Native.Nat.{ℕ, _+_, _-_, _≤_}
-use native.Mathlib.Omega.{arith}
-use borrow.Author.Needs.{needs}
-use borrow.Author.Tests.{ltb-true, ltb-false}
-use lib.ListN.{length, drop, length-drop}
-use lib.Seq.{sets}
+use Rattle.laws.proofs.Library.{_≡_, refl, sym, ap, _∙_, List, inl, inr, ⊎-elim, ℕ, _+_, _-_, _≤_, arith, needs, ltb-true, ltb-false, length, drop}
+use Rattle.laws.proofs.Library.{length-drop, sets}
 use Rattle.unions.proofs.Turns.{merges, merges-lower, merges-upper, merges-end, merges-all}
 use Rattle.unions.proofs.unite.Statement.{statement}
 use Rattle.unions.proofs.unite.Tie as tie
@@ -27,33 +20,6 @@ Inv-loop m n out₀ i₀ j₀ k₀ out i j k =
 abbrev μ-loop : tie.MeasureT-loop
 μ-loop m n out₀ i₀ j₀ k₀ out i j k = length m - i + (length n - j)
 
-loop-holds : tie.Need-loop-holds Inv-loop μ-loop
-loop-holds c = (search needs, search needs, search needs, refl, refl)
-
-mul-s : tie.Need-mul-s Inv-loop μ-loop
-mul-s c = search needs
-
-shared-slice-read-s : tie.Need-shared-slice-read-s Inv-loop μ-loop
-shared-slice-read-s c = search needs
-
-mul-t : tie.Need-mul-t Inv-loop μ-loop
-mul-t c = search needs
-
-shared-slice-read-t : tie.Need-shared-slice-read-t Inv-loop μ-loop
-shared-slice-read-t c = search needs
-
-begins-requires : tie.Need-begins-requires Inv-loop μ-loop
-begins-requires c κs = search needs
-
-put-requires : tie.Need-put-requires Inv-loop μ-loop
-put-requires c κs = search needs
-
-add-i : tie.Need-add-i Inv-loop μ-loop
-add-i c = search needs
-
-loop-less : tie.Need-loop-less Inv-loop μ-loop
-loop-less c = search needs
-
 loop-again : tie.Need-loop-again Inv-loop μ-loop
 loop-again c =
     let p = c .before .before in
@@ -71,15 +37,6 @@ loop-again c =
           (x .if2 .taken) (w .begins .ensures) (p .put .ensures .1) (p .put .ensures .2)
           ∙ l .loop .inv .4,
     )
-
-begins-requires-2 : tie.Need-begins-requires-2 Inv-loop μ-loop
-begins-requires-2 c κs = search needs
-
-put-requires-2 : tie.Need-put-requires-2 Inv-loop μ-loop
-put-requires-2 c κs = search needs
-
-add-j : tie.Need-add-j Inv-loop μ-loop
-add-j c = search needs
 
 loop-less-2 : tie.Need-loop-less-2 Inv-loop μ-loop
 loop-less-2 c =
@@ -118,9 +75,6 @@ copy-requires-2 c κs =
     let g = l .before .before .before .before .args in
     (l .loop .inv .1, omega (arith, p .copy .ensures .0, p .copy .kept .0, length-drop (l .loop .i) (g .m .now), length-drop (l .loop .j) (g .n .now)))
 
-same-length : tie.Need-same-length Inv-loop μ-loop
-same-length c = search needs
-
 returns : tie.Need-returns Inv-loop μ-loop
 returns c =
     let q = c .before .before in
@@ -140,27 +94,7 @@ returns c =
     (ap (λ (r : ℕ × List ℕ). r .0) all, ap (λ (r : ℕ × List ℕ). r .1) all)
 
 pub unite-spec : {M : Type 1} → statement M
-unite-spec =
-    tie.close
-    (tie.spec
-    Inv-loop
-    μ-loop
-    loop-holds
-    mul-s
-    shared-slice-read-s
-    mul-t
-    shared-slice-read-t
-    begins-requires
-    put-requires
-    add-i
-    loop-less
-    loop-again
-    begins-requires-2
-    put-requires-2
-    add-j
-    loop-less-2
-    loop-again-2
-    copy-requires
-    copy-requires-2
-    same-length
+unite-spec = tie.close (tie.spec Inv-loop μ-loop (λ c. (search needs, search needs, search needs, refl, refl)) (λ c. search needs) (λ c. search needs)
+    (λ c. search needs) (λ c. search needs) (λ c κs. search needs) (λ c κs. search needs) (λ c. search needs) (λ c. search needs) loop-again
+    (λ c κs. search needs) (λ c κs. search needs) (λ c. search needs) loop-less-2 loop-again-2 copy-requires copy-requires-2 (λ c. search needs)
     returns)

@@ -1,8 +1,5 @@
 -- `walks::compare` meets its contract: what the two are refused for, or how they stand. Assumes nothing.
-use borrow.Author.Needs.{needs}
-use mathlib.Core.Path.{_≡_, sym, ap, _∙_}
-use mathlib.Core.List.{List}
-use Prim.Native.Nat.{ℕ}
+use Rattle.laws.proofs.Library.{needs, _≡_, sym, ap, _∙_, List, ℕ}
 use Rattle.rules.specs.Stamps.{verdict}
 use Rattle.rules.specs.declared.Verdict.{Verdict}
 use Rattle.rules.specs.declared.Refusal.{Refusal}
@@ -22,18 +19,6 @@ module _ (u i v j : List ℕ) (m : Answer) (e : m ≡ meetWalk u i v j) where
   unfolding compareWalk
   told x t f = rw (sym e ∙ t) (ap Is f)
 
-meet-requires : tie.Need-meet-requires
-meet-requires c κs = search needs
-
-enum-known-m : tie.Need-enum-known-m
-enum-known-m c = search needs
-
-enum-told : tie.Need-enum-told
-enum-told c = search needs
-
-judged-requires : tie.Need-judged-requires
-judged-requires c κs = search needs
-
 returns : tie.Need-returns
 returns c =
     let m = c .before .before .before in
@@ -48,4 +33,4 @@ returns-2 c =
     told (g .u .now) (g .i .now) (g .v .now) (g .j .now) (m .meet .result) (m .meet .ensures) (c .judged .result) (d .enum-told .given .1) (c .judged .ensures)
 
 pub compare-spec : {M : Type 1} → statement M
-compare-spec = tie.close (tie.spec meet-requires enum-known-m enum-told judged-requires returns returns-2)
+compare-spec = tie.close (tie.spec (λ c κs. search needs) (λ c. search needs) (λ c. search needs) (λ c κs. search needs) returns returns-2)

@@ -1,10 +1,5 @@
 -- `walks::has_twins` meets its contract: the words from the one before i on decide. Assumes nothing.
-use borrow.Author.Needs.{needs}
-use mathlib.Core.Path.{_≡_, refl, sym, ap, _∙_}
-use mathlib.Core.Bool.{Bool, _||_}
-use native.Mathlib.Omega.{arith}
-use Prim.Native.Nat.{ℕ, _+_, _-_, _≤_}
-use lib.ListN.{length, drop}
+use Rattle.laws.proofs.Library.{needs, _≡_, refl, sym, ap, _∙_, Bool, _||_, arith, ℕ, _+_, _-_, _≤_, length, drop}
 use Rattle.walks.specs.Walks.{hasTwins}
 use Rattle.walks.proofs.Steps.{twins-turn, twins-end}
 use Rattle.walks.proofs.has_twins.Statement.{statement}
@@ -16,27 +11,6 @@ Inv-loop n i₀ i = (1 ≤ i) × (hasTwins (drop (i - 1) n) ≡ hasTwins n)
 abbrev μ-loop : tie.MeasureT-loop
 μ-loop n i₀ i = length n - i
 
-loop-holds : tie.Need-loop-holds Inv-loop μ-loop
-loop-holds c = (search needs, refl)
-
-sub-are-siblings : tie.Need-sub-are-siblings Inv-loop μ-loop
-sub-are-siblings c = search needs
-
-mul-are-siblings : tie.Need-mul-are-siblings Inv-loop μ-loop
-mul-are-siblings c = search needs
-
-shared-slice-read-are-siblings : tie.Need-shared-slice-read-are-siblings Inv-loop μ-loop
-shared-slice-read-are-siblings c = search needs
-
-mul-are-siblings-2 : tie.Need-mul-are-siblings-2 Inv-loop μ-loop
-mul-are-siblings-2 c = search needs
-
-shared-slice-read-are-siblings-2 : tie.Need-shared-slice-read-are-siblings-2 Inv-loop μ-loop
-shared-slice-read-are-siblings-2 c = search needs
-
-are-siblings-requires : tie.Need-are-siblings-requires Inv-loop μ-loop
-are-siblings-requires c κs = search needs
-
 returns : tie.Need-returns Inv-loop μ-loop
 returns c =
     let l = c .before .before .before .before .before in
@@ -46,12 +20,6 @@ returns c =
     (twins-turn n i (l .loop .inv .0) (omega arith)
     ∙ ap (λ (b : Bool). b || hasTwins (drop i n)) (sym (c .before .are-siblings .ensures) ∙ c .if1 .taken))
     ∙ l .loop .inv .1
-
-add-i : tie.Need-add-i Inv-loop μ-loop
-add-i c = search needs
-
-loop-less : tie.Need-loop-less Inv-loop μ-loop
-loop-less c = search needs
 
 loop-again : tie.Need-loop-again Inv-loop μ-loop
 loop-again c =
@@ -72,20 +40,5 @@ returns-2 c =
     sym (twins-end (l .before .before .args .n .now) (l .loop .i) (omega arith)) ∙ l .loop .inv .1
 
 pub has-twins-spec : {M : Type 1} → statement M
-has-twins-spec =
-    tie.close
-    (tie.spec
-    Inv-loop
-    μ-loop
-    loop-holds
-    sub-are-siblings
-    mul-are-siblings
-    shared-slice-read-are-siblings
-    mul-are-siblings-2
-    shared-slice-read-are-siblings-2
-    are-siblings-requires
-    returns
-    add-i
-    loop-less
-    loop-again
-    returns-2)
+has-twins-spec = tie.close (tie.spec Inv-loop μ-loop (λ c. (search needs, refl)) (λ c. search needs) (λ c. search needs) (λ c. search needs)
+    (λ c. search needs) (λ c. search needs) (λ c κs. search needs) returns (λ c. search needs) (λ c. search needs) loop-again returns-2)

@@ -1,12 +1,6 @@
 -- `walks::is_below` meets its contract. The inner loop passes the words of n below s; what is left to ask, of s and of the strings of m
 -- behind it, stays the same. The first string that none extends decides. Assumes nothing.
-use borrow.Author.Needs.{needs}
-use mathlib.Core.Path.{_≡_, refl, sym, ap, _∙_}
-use mathlib.Core.Bool.{true, false}
-use native.Mathlib.Omega.{arith}
-use Prim.Native.Nat.{_+_, _-_}
-use borrow.Author.Tests.{not-true, not-false}
-use lib.ListN.{length, getD, drop}
+use Rattle.laws.proofs.Library.{needs, _≡_, refl, sym, ap, _∙_, true, false, arith, _+_, _-_, not-true, not-false, length, getD, drop}
 use Rattle.walks.specs.Walks.{atLeast, belowWalk}
 use Rattle.walks.proofs.Steps.{passed, belowFrom, below-turn, below-end, below-none, below-at}
 use Rattle.walks.proofs.is_below.Statement.{statement}
@@ -26,32 +20,11 @@ Inv-each m n ok₀ i₀ j₀ ok i j = (ok ≡ true) × (belowWalk (drop i m) (dr
 abbrev μ-each : tie.MeasureT-each
 μ-each m n ok₀ i₀ j₀ ok i j = length m - i
 
-each-holds : tie.Need-each-holds Inv-loop μ-loop Inv-each μ-each
-each-holds c = (refl, refl)
-
-mul-s : tie.Need-mul-s Inv-loop μ-loop Inv-each μ-each
-mul-s c = search needs
-
-shared-slice-read-s : tie.Need-shared-slice-read-s Inv-loop μ-loop Inv-each μ-each
-shared-slice-read-s c = search needs
-
 loop-holds : tie.Need-loop-holds Inv-loop μ-loop Inv-each μ-each
 loop-holds c =
     let e = c .before .before in
     let g = e .before .before .before in
     (search needs, below-turn (g .args .m .now) (e .each .i) (drop (e .each .j) (g .args .n .now)) (omega arith) ∙ e .each .inv .1)
-
-mul-if2 : tie.Need-mul-if2 Inv-loop μ-loop Inv-each μ-each
-mul-if2 c = search needs
-
-shared-slice-read-if2 : tie.Need-shared-slice-read-if2 Inv-loop μ-loop Inv-each μ-each
-shared-slice-read-if2 c = search needs
-
-add-j : tie.Need-add-j Inv-loop μ-loop Inv-each μ-each
-add-j c = search needs
-
-loop-less : tie.Need-loop-less Inv-loop μ-loop Inv-each μ-each
-loop-less c = search needs
 
 loop-again : tie.Need-loop-again Inv-loop μ-loop Inv-each μ-each
 loop-again c =
@@ -63,21 +36,6 @@ loop-again c =
       search needs,
       ap (belowFrom s (drop (e .each .i + 1) m)) (passed s (g .args .n .now) (l .loop .j) (omega arith) (omega (arith, c .if2 .left))) ∙ l .loop .inv .1,
     )
-
-mul-begins : tie.Need-mul-begins Inv-loop μ-loop Inv-each μ-each
-mul-begins c = search needs
-
-shared-slice-read-begins : tie.Need-shared-slice-read-begins Inv-loop μ-loop Inv-each μ-each
-shared-slice-read-begins c = search needs
-
-begins-requires : tie.Need-begins-requires Inv-loop μ-loop Inv-each μ-each
-begins-requires c κs = search needs
-
-add-i : tie.Need-add-i Inv-loop μ-loop Inv-each μ-each
-add-i c = search needs
-
-each-less : tie.Need-each-less Inv-loop μ-loop Inv-each μ-each
-each-less c = search needs
 
 each-again : tie.Need-each-again Inv-loop μ-loop Inv-each μ-each
 each-again c =
@@ -120,28 +78,6 @@ returns-3 c =
     (sym (b .ensures) ∙ not-true (b .result) (c .if3 .taken))) ∙ l .loop .inv .1
 
 pub is-below-spec : {M : Type 1} → statement M
-is-below-spec =
-    tie.close
-    (tie.spec
-    Inv-loop
-    μ-loop
-    Inv-each
-    μ-each
-    each-holds
-    mul-s
-    shared-slice-read-s
-    loop-holds
-    mul-if2
-    shared-slice-read-if2
-    add-j
-    loop-less
-    loop-again
-    mul-begins
-    shared-slice-read-begins
-    begins-requires
-    add-i
-    each-less
-    each-again
-    returns
-    returns-2
-    returns-3)
+is-below-spec = tie.close (tie.spec Inv-loop μ-loop Inv-each μ-each (λ c. (refl, refl)) (λ c. search needs) (λ c. search needs) loop-holds
+    (λ c. search needs) (λ c. search needs) (λ c. search needs) (λ c. search needs) loop-again (λ c. search needs) (λ c. search needs)
+    (λ c κs. search needs) (λ c. search needs) (λ c. search needs) each-again returns returns-2 returns-3)

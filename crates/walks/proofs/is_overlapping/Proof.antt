@@ -1,13 +1,7 @@
 -- `walks::is_overlapping` meets its contract: the strings of m from i on and those of n from j on decide. Of the two that stand there the lower
 -- one is held against the other and passed, and where one name has none left nothing overlaps. The measure is how many are to come.
 -- Assumes nothing.
-use borrow.Author.Needs.{needs}
-use borrow.Author.Tests.{ltb-true, ltb-false}
-use mathlib.Core.Path.{_≡_, refl, sym, _∙_}
-use mathlib.Core.Logic.{inl, inr}
-use native.Mathlib.Omega.{arith}
-use Prim.Native.Nat.{_+_, _-_}
-use lib.ListN.{length, drop}
+use Rattle.laws.proofs.Library.{needs, ltb-true, ltb-false, _≡_, refl, sym, _∙_, inl, inr, arith, _+_, _-_, length, drop}
 use Rattle.walks.specs.Walks.{overlapWalk}
 use Rattle.walks.proofs.Steps.{overlap-end, lower-hit, lower-miss, upper-hit, upper-miss}
 use Rattle.walks.proofs.is_overlapping.Statement.{statement}
@@ -18,24 +12,6 @@ Inv-loop m n i₀ j₀ i j = overlapWalk (drop i m) (drop j n) ≡ overlapWalk m
 
 abbrev μ-loop : tie.MeasureT-loop
 μ-loop m n i₀ j₀ i j = length m - i + (length n - j)
-
-loop-holds : tie.Need-loop-holds Inv-loop μ-loop
-loop-holds c = refl
-
-mul-s : tie.Need-mul-s Inv-loop μ-loop
-mul-s c = search needs
-
-shared-slice-read-s : tie.Need-shared-slice-read-s Inv-loop μ-loop
-shared-slice-read-s c = search needs
-
-mul-t : tie.Need-mul-t Inv-loop μ-loop
-mul-t c = search needs
-
-shared-slice-read-t : tie.Need-shared-slice-read-t Inv-loop μ-loop
-shared-slice-read-t c = search needs
-
-begins-requires : tie.Need-begins-requires Inv-loop μ-loop
-begins-requires c κs = search needs
 
 returns : tie.Need-returns Inv-loop μ-loop
 returns c =
@@ -48,12 +24,6 @@ returns c =
     (lower-hit (g .m .now) (g .n .now) (l .loop .i) (l .loop .j) (omega arith) hj (a .before .if2 .taken) (sym (a .begins .ensures) ∙ c .if3 .taken))
     ∙ l .loop .inv
 
-add-i : tie.Need-add-i Inv-loop μ-loop
-add-i c = search needs
-
-loop-less : tie.Need-loop-less Inv-loop μ-loop
-loop-less c = search needs
-
 loop-again : tie.Need-loop-again Inv-loop μ-loop
 loop-again c =
     let a = c .before in
@@ -64,9 +34,6 @@ loop-again c =
     sym
     (lower-miss (g .m .now) (g .n .now) (l .loop .i) (l .loop .j) (omega arith) hj (a .before .if2 .taken) (sym (a .begins .ensures) ∙ c .if3 .left))
     ∙ l .loop .inv
-
-begins-requires-2 : tie.Need-begins-requires-2 Inv-loop μ-loop
-begins-requires-2 c κs = search needs
 
 returns-2 : tie.Need-returns-2 Inv-loop μ-loop
 returns-2 c =
@@ -115,25 +82,6 @@ returns-4 c =
     sym (overlap-end (g .m .now) (g .n .now) (l .loop .i) (l .loop .j) (inl (c .loop-test .left))) ∙ l .loop .inv
 
 pub is-overlapping-spec : {M : Type 1} → statement M
-is-overlapping-spec =
-    tie.close
-    (tie.spec
-    Inv-loop
-    μ-loop
-    loop-holds
-    mul-s
-    shared-slice-read-s
-    mul-t
-    shared-slice-read-t
-    begins-requires
-    returns
-    add-i
-    loop-less
-    loop-again
-    begins-requires-2
-    returns-2
-    add-j
-    loop-less-2
-    loop-again-2
-    returns-3
-    returns-4)
+is-overlapping-spec = tie.close (tie.spec Inv-loop μ-loop (λ c. refl) (λ c. search needs) (λ c. search needs) (λ c. search needs) (λ c. search needs)
+    (λ c κs. search needs) returns (λ c. search needs) (λ c. search needs) loop-again (λ c κs. search needs) returns-2 add-j loop-less-2 loop-again-2
+    returns-3 returns-4)

@@ -1,12 +1,6 @@
 -- `walks::is_unknown` meets its contract: the strings of u from a on, asked of the words of i from b on and of those of v from c on, decide.
 -- Where i has none left, none of u is below it. Assumes nothing.
-use borrow.Author.Needs.{needs}
-use borrow.Author.Tests.{not-true, not-false}
-use mathlib.Core.Path.{_≡_, refl, sym, ap, _∙_}
-use mathlib.Core.Logic.{⊎-elim}
-use native.Mathlib.Omega.{arith}
-use Prim.Native.Nat.{ℕ, _+_, _-_}
-use lib.ListN.{length, drop}
+use Rattle.laws.proofs.Library.{needs, not-true, not-false, _≡_, refl, sym, ap, _∙_, ⊎-elim, arith, ℕ, _+_, _-_, length, drop}
 use Rattle.walks.specs.Walks.{unknownWalk}
 use Rattle.walks.proofs.Steps.{unknown-end, unknown-gone, unknown-passed, unknown-left, unknown-found, unknown-known}
 use Rattle.walks.proofs.is_unknown.Statement.{statement}
@@ -18,18 +12,6 @@ Inv-loop u i v a₀ b₀ c₀ a b c = unknownWalk (drop a u) (drop b i) (drop c 
 abbrev μ-loop : tie.MeasureT-loop
 μ-loop u i v a₀ b₀ c₀ a b c = length u - a
 
-loop-holds : tie.Need-loop-holds Inv-loop μ-loop
-loop-holds c = refl
-
-mul-r : tie.Need-mul-r Inv-loop μ-loop
-mul-r c = search needs
-
-shared-slice-read-r : tie.Need-shared-slice-read-r Inv-loop μ-loop
-shared-slice-read-r c = search needs
-
-reach-requires : tie.Need-reach-requires Inv-loop μ-loop
-reach-requires c κs = search needs
-
 returns : tie.Need-returns Inv-loop μ-loop
 returns c =
     let s = c .before in
@@ -39,18 +21,6 @@ returns c =
     (unknown-gone (g .u .now) (g .i .now) (g .v .now) (l .loop .a) (l .loop .b) (l .loop .c) (omega arith) (s .reach .result) (s .reach .ensures)
     (c .if1 .taken))
     ∙ l .loop .inv
-
-mul-begins : tie.Need-mul-begins Inv-loop μ-loop
-mul-begins c = search needs
-
-shared-slice-read-begins : tie.Need-shared-slice-read-begins Inv-loop μ-loop
-shared-slice-read-begins c = search needs
-
-begins-requires : tie.Need-begins-requires Inv-loop μ-loop
-begins-requires c κs = search needs
-
-reach-requires-2 : tie.Need-reach-requires-2 Inv-loop μ-loop
-reach-requires-2 c κs = search needs
 
 returns-2 : tie.Need-returns-2 Inv-loop μ-loop
 returns-2 c =
@@ -64,15 +34,6 @@ returns-2 c =
     (sym (x .begins .ensures) ∙ k .before .if2 .taken) (k .reach2 .result) (k .reach2 .ensures) (c .if3 .taken))
     ∙ l .loop .inv
 
-mul-begins-2 : tie.Need-mul-begins-2 Inv-loop μ-loop
-mul-begins-2 c = search needs
-
-shared-slice-read-begins-2 : tie.Need-shared-slice-read-begins-2 Inv-loop μ-loop
-shared-slice-read-begins-2 c = search needs
-
-begins-requires-2 : tie.Need-begins-requires-2 Inv-loop μ-loop
-begins-requires-2 c κs = search needs
-
 returns-3 : tie.Need-returns-3 Inv-loop μ-loop
 returns-3 c =
     let k = c .before .before .before .before in
@@ -85,12 +46,6 @@ returns-3 c =
     (sym (x .begins .ensures) ∙ k .before .if2 .taken) (k .reach2 .result) (k .reach2 .ensures) (c .before .before .before .if3 .left)
     (sym (c .before .begins2 .ensures) ∙ not-true (c .before .begins2 .result) (c .if4 .taken)))
     ∙ l .loop .inv
-
-add-a : tie.Need-add-a Inv-loop μ-loop
-add-a c = search needs
-
-loop-less : tie.Need-loop-less Inv-loop μ-loop
-loop-less c = search needs
 
 loop-again : tie.Need-loop-again Inv-loop μ-loop
 loop-again c =
@@ -125,26 +80,6 @@ returns-4 c =
     sym (unknown-end (g .u .now) (l .loop .a) (drop (l .loop .b) (g .i .now)) (drop (l .loop .c) (g .v .now)) (c .loop-test .left)) ∙ l .loop .inv
 
 pub is-unknown-spec : {M : Type 1} → statement M
-is-unknown-spec =
-    tie.close
-    (tie.spec
-    Inv-loop
-    μ-loop
-    loop-holds
-    mul-r
-    shared-slice-read-r
-    reach-requires
-    returns
-    mul-begins
-    shared-slice-read-begins
-    begins-requires
-    reach-requires-2
-    returns-2
-    mul-begins-2
-    shared-slice-read-begins-2
-    begins-requires-2
-    returns-3
-    add-a
-    loop-less
-    loop-again
-    returns-4)
+is-unknown-spec = tie.close (tie.spec Inv-loop μ-loop (λ c. refl) (λ c. search needs) (λ c. search needs) (λ c κs. search needs) returns
+    (λ c. search needs) (λ c. search needs) (λ c κs. search needs) (λ c κs. search needs) returns-2 (λ c. search needs) (λ c. search needs)
+    (λ c κs. search needs) returns-3 (λ c. search needs) (λ c. search needs) loop-again returns-4)

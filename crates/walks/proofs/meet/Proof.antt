@@ -1,9 +1,5 @@
 -- `walks::meet` meets its contract: the tests in their order, and 9 is asked both ways. Assumes nothing.
-use borrow.Author.Needs.{needs}
-use mathlib.Core.Path.{_≡_, sym, _∙_}
-use mathlib.Core.Bool.{Bool, true, false}
-use mathlib.Core.List.{List}
-use Prim.Native.Nat.{ℕ}
+use Rattle.laws.proofs.Library.{needs, _≡_, sym, _∙_, Bool, true, false, List, ℕ}
 use Rattle.rules.specs.Refusals.{first}
 use Rattle.rules.specs.declared.Refusal.the-variants.{Overlap, Unseen}
 use Rattle.rules.specs.declared.Answer.{Answer}
@@ -42,17 +38,11 @@ module _ (u i v j : List ℕ) where
   unfolding meetWalk first
   done p q s = rw (p, q, s)
 
-is-overlapping-requires : tie.Need-is-overlapping-requires
-is-overlapping-requires c κs = search needs
-
 returns : tie.Need-returns
 returns c =
     let o = c .before in
     let g = o .before .before .before .before .before .args in
     overlapping (g .u .now) (g .i .now) (g .v .now) (g .j .now) (sym (o .is-overlapping .ensures) ∙ c .if1 .taken)
-
-is-unknown-requires : tie.Need-is-unknown-requires
-is-unknown-requires c κs = search needs
 
 returns-2 : tie.Need-returns-2
 returns-2 c =
@@ -61,9 +51,6 @@ returns-2 c =
     let g = o .before .before .before .before .before .args in
     first-unseen (g .u .now) (g .i .now) (g .v .now) (g .j .now) (sym (o .is-overlapping .ensures) ∙ x .before .if1 .left)
     (sym (x .is-unknown .ensures) ∙ c .if2 .taken)
-
-is-unknown-requires-2 : tie.Need-is-unknown-requires-2
-is-unknown-requires-2 c κs = search needs
 
 returns-3 : tie.Need-returns-3
 returns-3 c =
@@ -84,13 +71,4 @@ returns-4 c =
     (sym (x .is-unknown .ensures) ∙ y .before .if2 .left) (sym (y .is-unknown2 .ensures) ∙ c .if3 .left)
 
 pub meet-spec : {M : Type 1} → statement M
-meet-spec =
-    tie.close
-    (tie.spec
-    is-overlapping-requires
-    returns
-    is-unknown-requires
-    returns-2
-    is-unknown-requires-2
-    returns-3
-    returns-4)
+meet-spec = tie.close (tie.spec (λ c κs. search needs) returns (λ c κs. search needs) returns-2 (λ c κs. search needs) returns-3 returns-4)

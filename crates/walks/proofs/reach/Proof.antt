@@ -1,9 +1,5 @@
 -- `walks::reach` meets its contract: what is passed is below s, so what is left without the words below s stays the same. Assumes nothing.
-use borrow.Author.Needs.{needs}
-use mathlib.Core.Path.{_≡_, refl, sym, _∙_}
-use native.Mathlib.Omega.{arith}
-use Prim.Native.Nat.{_-_}
-use lib.ListN.{length, drop}
+use Rattle.laws.proofs.Library.{needs, _≡_, refl, sym, _∙_, arith, _-_, length, drop}
 use Rattle.walks.specs.Walks.{atLeast}
 use Rattle.walks.proofs.Steps.{from-end, passed, stays, none-left}
 use Rattle.walks.proofs.reach.Statement.{statement}
@@ -15,26 +11,11 @@ Inv-loop n from s j₀ j = atLeast s (drop j n) ≡ atLeast s (drop from n)
 abbrev μ-loop : tie.MeasureT-loop
 μ-loop n from s j₀ j = length n - j
 
-loop-holds : tie.Need-loop-holds Inv-loop μ-loop
-loop-holds c = refl
-
-mul-if1 : tie.Need-mul-if1 Inv-loop μ-loop
-mul-if1 c = search needs
-
-shared-slice-read-if1 : tie.Need-shared-slice-read-if1 Inv-loop μ-loop
-shared-slice-read-if1 c = search needs
-
 returns : tie.Need-returns Inv-loop μ-loop
 returns c =
     let l = c .before .before .before in
     let g = l .before in
     sym (stays (g .args .s) (g .args .n .now) (l .loop .j) (omega arith) (omega (arith, c .if1 .taken))) ∙ l .loop .inv
-
-add-j : tie.Need-add-j Inv-loop μ-loop
-add-j c = search needs
-
-loop-less : tie.Need-loop-less Inv-loop μ-loop
-loop-less c = search needs
 
 loop-again : tie.Need-loop-again Inv-loop μ-loop
 loop-again c =
@@ -50,6 +31,5 @@ returns-2 c =
     from-end n (l .loop .j) (omega arith) ∙ sym (none-left (g .args .s) n (l .loop .j) (omega arith)) ∙ l .loop .inv
 
 pub reach-spec : {M : Type 1} → statement M
-reach-spec =
-    tie.close
-    (tie.spec Inv-loop μ-loop loop-holds mul-if1 shared-slice-read-if1 returns add-j loop-less loop-again returns-2)
+reach-spec = tie.close (tie.spec Inv-loop μ-loop (λ c. refl) (λ c. search needs) (λ c. search needs) returns (λ c. search needs) (λ c. search needs)
+    loop-again returns-2)

@@ -1,14 +1,8 @@
 -- `writing::bits_of` meets its contract: the sum so far lacks the digits of the strings from i on, and `long` counts the strings that are
 -- too long. Assumes nothing.
-use mathlib.Core.Path.{_≡_, refl, sym, ap, _∙_}
-use mathlib.Core.Bool.{Bool, true, false, _&&_, and-true, and-false, and-assoc}
-use mathlib.Core.List.{List, [], map}
-use Prim.Native.Nat.{ℕ, _+_, _*_, _-_, _/_, _%_, _≤_, _<_}
-use native.Mathlib.Omega.{arith}
-use borrow.Author.Needs.{needs}
-use borrow.Author.Tests.{le-leb, lt-leb, leb-true, leb-false, eq-eqb, ne-eqb}
-use lib.Dec.{eqb, leb}
-use lib.ListN.{length, getD, drop, drop-of-length-le}
+use Rattle.laws.proofs.Library.{_≡_, refl, sym, ap, _∙_, Bool, true, false, _&&_, and-true, and-false, and-assoc, List, [], map, ℕ, _+_, _*_, _-_, _/_, _%_}
+use Rattle.laws.proofs.Library.{_≤_, _<_, arith, needs, le-leb, lt-leb, leb-true, leb-false, eq-eqb, ne-eqb, eqb, leb, length, getD, drop}
+use Rattle.laws.proofs.Library.{drop-of-length-le}
 use Rattle.rules.specs.Limits.{narrow}
 use Rattle.rules.specs.Strings.{strOf}
 use Rattle.rules.specs.Names.{all}
@@ -74,36 +68,6 @@ returns c = rw (none-fits (c .before .args .n .now) (omega arith))
 returns-2 : tie.Need-returns-2 Inv-loop μ-loop
 returns-2 c = rw (many-fit (c .before .before .args .n .now) (omega arith))
 
-mul-sum : tie.Need-mul-sum Inv-loop μ-loop
-mul-sum c = search needs
-
-add-sum : tie.Need-add-sum Inv-loop μ-loop
-add-sum c = search needs
-
-loop-holds : tie.Need-loop-holds Inv-loop μ-loop
-loop-holds c = (search needs, omega arith, search needs, omega arith, refl)
-
-mul-k : tie.Need-mul-k Inv-loop μ-loop
-mul-k c = search needs
-
-shared-slice-read-k : tie.Need-shared-slice-read-k Inv-loop μ-loop
-shared-slice-read-k c = search needs
-
-add-long : tie.Need-add-long Inv-loop μ-loop
-add-long c = search needs
-
-add-long-2 : tie.Need-add-long-2 Inv-loop μ-loop
-add-long-2 c = search needs
-
-add-sum-2 : tie.Need-add-sum-2 Inv-loop μ-loop
-add-sum-2 c = search needs
-
-add-i : tie.Need-add-i Inv-loop μ-loop
-add-i c = search needs
-
-loop-less : tie.Need-loop-less Inv-loop μ-loop
-loop-less c = search needs
-
 loop-again : tie.Need-loop-again Inv-loop μ-loop
 loop-again c =
     let l = c .before .before in
@@ -134,23 +98,6 @@ returns-4 c =
     rw (all-fit n true (omega arith) (omega arith) fit) (omega (arith, l .loop .inv .3, ap bits end, name-length narrow (map strOf n)))
 
 pub bits-of-spec : {M : Type 1} → statement M
-bits-of-spec =
-    tie.close
-    (tie.spec
-    Inv-loop
-    μ-loop
-    returns
-    returns-2
-    mul-sum
-    add-sum
-    loop-holds
-    mul-k
-    shared-slice-read-k
-    add-long
-    add-long-2
-    add-sum-2
-    add-i
-    loop-less
-    loop-again
-    returns-3
-    returns-4)
+bits-of-spec = tie.close (tie.spec Inv-loop μ-loop returns returns-2 (λ c. search needs) (λ c. search needs)
+    (λ c. (search needs, omega arith, search needs, omega arith, refl)) (λ c. search needs) (λ c. search needs) (λ c. search needs)
+    (λ c. search needs) (λ c. search needs) (λ c. search needs) (λ c. search needs) loop-again returns-3 returns-4)

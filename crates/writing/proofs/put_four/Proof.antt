@@ -1,13 +1,6 @@
 -- `writing::put_four` meets its contract: each byte stands behind those before it, and four bytes have the 32 low bits. Assumes nothing.
-use mathlib.Core.Path.{_≡_, refl, sym, ap, ap₂, _∙_}
-use mathlib.Core.Bool.{Bool}
-use mathlib.Core.List.{List, _++_, append-assoc}
-use Prim.Native.Nat.{ℕ, _+_, _/_, _%_, _^_, _≤_}
-use native.Mathlib.Omega.{arith}
-use borrow.Author.Needs.{needs}
-use lib.Pow.{shr-shr}
-use lib.ListN.{length, take, drop, set, length-set}
-use lib.Seq.{drop-set-lt}
+use Rattle.laws.proofs.Library.{_≡_, refl, sym, ap, ap₂, _∙_, Bool, List, _++_, append-assoc, ℕ, _+_, _/_, _%_, _^_, _≤_, arith, needs, shr-shr, length}
+use Rattle.laws.proofs.Library.{take, drop, set, length-set, drop-set-lt}
 use Rattle.rules.specs.Strings.{field}
 use Rattle.rules.specs.Packed.{bitsOf}
 use Rattle.laws.proofs.Words.{field-split}
@@ -66,59 +59,18 @@ module _ (l : List ℕ) (at v : ℕ) (room : at + 4 ≤ length l) where
       drop-set-lt (at + 4) three (at + 3) (v % 256) (omega arith) ∙ drop-set-lt (at + 4) two (at + 2) (v / 2 ^ 8 % 256) (omega arith)
       ∙ drop-set-lt (at + 4) one (at + 1) (v / 2 ^ 16 % 256) (omega arith) ∙ drop-set-lt (at + 4) l at (v / 2 ^ 24 % 256) (omega arith)
 
-cast-out : tie.Need-cast-out
-cast-out c = search needs
-
-slice-write-out : tie.Need-slice-write-out
-slice-write-out c = search needs
-
-cast-out-2 : tie.Need-cast-out-2
-cast-out-2 c = search needs
-
-add-out : tie.Need-add-out
-add-out c = search needs
-
 slice-write-out-2 : tie.Need-slice-write-out-2
 slice-write-out-2 c = omega (arith, c .pre, one-length (c .args .out .now) (c .args .at) (c .args .v) (c .pre))
-
-cast-out-3 : tie.Need-cast-out-3
-cast-out-3 c = search needs
-
-add-out-2 : tie.Need-add-out-2
-add-out-2 c = search needs
 
 slice-write-out-3 : tie.Need-slice-write-out-3
 slice-write-out-3 c = omega (arith, c .pre, two-length (c .args .out .now) (c .args .at) (c .args .v) (c .pre))
 
-cast-out-4 : tie.Need-cast-out-4
-cast-out-4 c = search needs
-
-add-out-3 : tie.Need-add-out-3
-add-out-3 c = search needs
-
 slice-write-out-4 : tie.Need-slice-write-out-4
 slice-write-out-4 c = omega (arith, c .pre, three-length (c .args .out .now) (c .args .at) (c .args .v) (c .pre))
-
-same-length : tie.Need-same-length
-same-length c = search needs
 
 returns : tie.Need-returns
 returns c = (four-bits (c .args .out .now) (c .args .at) (c .args .v) (c .pre), four-kept (c .args .out .now) (c .args .at) (c .args .v) (c .pre))
 
 pub put-four-spec : {M : Type 1} → statement M
-put-four-spec =
-    tie.close
-    (tie.spec
-    cast-out
-    slice-write-out
-    cast-out-2
-    add-out
-    slice-write-out-2
-    cast-out-3
-    add-out-2
-    slice-write-out-3
-    cast-out-4
-    add-out-3
-    slice-write-out-4
-    same-length
-    returns)
+put-four-spec = tie.close (tie.spec (λ c. search needs) (λ c. search needs) (λ c. search needs) (λ c. search needs) slice-write-out-2
+    (λ c. search needs) (λ c. search needs) slice-write-out-3 (λ c. search needs) (λ c. search needs) slice-write-out-4 (λ c. search needs) returns)

@@ -1,17 +1,8 @@
 -- `writing::put_rest` meets its contract: what is held stands at the top of the word with zeros behind it, and what is written says the same
 -- while bytes go out from there; bytes whose bits are these and a filling are the bits packed. Assumes nothing.
-use mathlib.Core.Path.{_≡_, refl, sym, ap, ap₂, _∙_}
-use mathlib.Core.Bool.{Bool, true}
-use mathlib.Core.List.{List, [], _∷_, _++_, append-assoc, append-nil}
-use Prim.Native.Nat.{ℕ, zero, suc, _+_, _*_, _-_, _/_, _%_, _^_, _≤_, _<_}
-use native.Mathlib.Nat.{add-zero, zero-mul, zero-div}
-use native.Mathlib.Omega.{arith}
-use borrow.Author.Needs.{needs}
-use borrow.Author.Tests.{lt-ltb, eq-eqb}
-use lib.Dec.{ltb}
-use lib.Pow.{pow-pos}
-use lib.ListN.{length, take, drop, set, length-set, take-append-drop}
-use lib.Seq.{take-append-le, take-append-add, drop-drop, drop-set-lt, length-take-le}
+use Rattle.laws.proofs.Library.{_≡_, refl, sym, ap, ap₂, _∙_, Bool, true, List, [], _∷_, _++_, append-assoc, append-nil, ℕ, zero, suc, _+_, _*_, _-_, _/_}
+use Rattle.laws.proofs.Library.{_%_, _^_, _≤_, _<_, add-zero, zero-mul, zero-div, arith, needs, lt-ltb, eq-eqb, ltb, pow-pos, length, take, drop, set}
+use Rattle.laws.proofs.Library.{length-set, take-append-drop, take-append-le, take-append-add, drop-drop, drop-set-lt, length-take-le}
 use Rattle.rules.specs.Strings.{field, value}
 use Rattle.rules.specs.Names.{all}
 use Rattle.rules.specs.Packed.{bitsOf, packBits, over, isFilling}
@@ -136,37 +127,16 @@ Inv-loop out₀ end rest₀ at₀ out rest at =
 abbrev μ-loop : tie.MeasureT-loop
 μ-loop out₀ end rest₀ at₀ out rest at = end - at
 
-add-end : tie.Need-add-end Inv-loop μ-loop
-add-end c = search needs
-
-add-end-2 : tie.Need-add-end-2 Inv-loop μ-loop
-add-end-2 c = search needs
-
-sub-rest : tie.Need-sub-rest Inv-loop μ-loop
-sub-rest c = search needs
-
-shl-rest : tie.Need-shl-rest Inv-loop μ-loop
-shl-rest c = search needs
-
 loop-holds : tie.Need-loop-holds Inv-loop μ-loop
 loop-holds c =
     let g = c .before .before .before .before in
     (search needs, search needs, record { bits = refl; kept = refl; bytes = g .pre .0; long = refl })
-
-cast-out : tie.Need-cast-out Inv-loop μ-loop
-cast-out c = search needs
 
 slice-write-out : tie.Need-slice-write-out Inv-loop μ-loop
 slice-write-out c =
     let l = c .before .loop in
     let g = c .before .before .before .before .before .before in
     omega (arith, l .inv .2 .long, g .pre .1 .room)
-
-add-at : tie.Need-add-at Inv-loop μ-loop
-add-at c = search needs
-
-loop-less : tie.Need-loop-less Inv-loop μ-loop
-loop-less c = search needs
 
 loop-again : tie.Need-loop-again Inv-loop μ-loop
 loop-again c =
@@ -177,9 +147,6 @@ loop-again c =
       search needs,
       stepped s (omega arith) (omega (arith, g .pre .1 .few)) (omega (arith, s .long, g .pre .1 .room)),
     )
-
-same-length : tie.Need-same-length Inv-loop μ-loop
-same-length c = search needs
 
 returns : tie.Need-returns Inv-loop μ-loop
 returns c =
@@ -192,20 +159,5 @@ returns c =
     (omega (arith, s .long, g .pre .1 .room)) (omega arith) s
 
 pub put-rest-spec : {M : Type 1} → statement M
-put-rest-spec =
-    tie.close
-    (tie.spec
-    Inv-loop
-    μ-loop
-    add-end
-    add-end-2
-    sub-rest
-    shl-rest
-    loop-holds
-    cast-out
-    slice-write-out
-    add-at
-    loop-less
-    loop-again
-    same-length
-    returns)
+put-rest-spec = tie.close (tie.spec Inv-loop μ-loop (λ c. search needs) (λ c. search needs) (λ c. search needs) (λ c. search needs) loop-holds
+    (λ c. search needs) slice-write-out (λ c. search needs) (λ c. search needs) loop-again (λ c. search needs) returns)

@@ -1,13 +1,7 @@
 -- `writing::put_stamp` meets its contract: each name's strings are put behind its count, and what is then written are the stamp's bits.
 -- Assumes nothing.
-use mathlib.Core.Path.{_≡_, refl, sym, ap, _∙_}
-use mathlib.Core.Bool.{Bool}
-use mathlib.Core.List.{List, _++_, map, append-assoc}
-use Prim.Native.Nat.{ℕ, _+_, _*_, _-_, _%_, _^_, _≤_}
-use native.Mathlib.Omega.{arith}
-use borrow.Author.Needs.{needs}
-use lib.ListN.{length, take, drop, length-map}
-use lib.Seq.{drop-drop}
+use Rattle.laws.proofs.Library.{_≡_, refl, sym, ap, _∙_, Bool, List, _++_, map, append-assoc, ℕ, _+_, _*_, _-_, _%_, _^_, _≤_, arith, needs, length, take}
+use Rattle.laws.proofs.Library.{drop, length-map, drop-drop}
 use Rattle.rules.specs.Limits.{narrow}
 use Rattle.rules.specs.Strings.{field, strOf}
 use Rattle.rules.specs.Packed.{stringsBits, nameBits, stampBits, packBits, packed, over, bitsOf}
@@ -93,12 +87,6 @@ put-strings-requires c κs =
       record { few = omega arith; room = omega (arith, g .pre .1, names-length narrow (stampOf u i), name-size u, name-size i) },
     )
 
-add-held : tie.Need-add-held
-add-held c = search needs
-
-shl-acc : tie.Need-shl-acc
-shl-acc c = search needs
-
 add-acc : tie.Need-add-acc
 add-acc c =
     let p = c .before .before .before .before in
@@ -146,9 +134,6 @@ put-rest-requires c κs =
       },
     )
 
-same-length : tie.Need-same-length
-same-length c = search needs
-
 returns : tie.Need-returns
 returns c =
     let e = c .before .before in
@@ -162,16 +147,5 @@ returns c =
     (both-fit u i (g .pre .0) .1 .few) (e .put-rest .ensures)
 
 pub put-stamp-spec : {M : Type 1} → statement M
-put-stamp-spec =
-    tie.close
-    (tie.spec
-    sub-c
-    sub-d
-    put-strings-requires
-    add-held
-    shl-acc
-    add-acc
-    put-strings-requires-2
-    put-rest-requires
-    same-length
-    returns)
+put-stamp-spec = tie.close (tie.spec sub-c sub-d put-strings-requires (λ c. search needs) (λ c. search needs) add-acc put-strings-requires-2
+    put-rest-requires (λ c. search needs) returns)

@@ -1,14 +1,7 @@
 -- `writing::put_strings` meets its contract: what is written, with the bits of the strings from i on behind it, says the same in every turn;
 -- a string that is held fits the word, and four bytes go out before the next one would not. Assumes nothing.
-use mathlib.Core.Path.{_≡_, refl, sym, ap, _∙_, subst}
-use mathlib.Core.Bool.{Bool, true}
-use mathlib.Core.List.{List, [], _∷_, _++_, map, append-assoc, append-nil}
-use mathlib.Core.Logic.{⊎-elim}
-use Prim.Native.Nat.{ℕ, _+_, _*_, _-_, _/_, _%_, _^_, _≤_, _<_}
-use native.Mathlib.Omega.{arith}
-use borrow.Author.Needs.{needs}
-use lib.ListN.{length, take, drop, drop-of-length-le}
-use lib.Seq.{drop-drop}
+use Rattle.laws.proofs.Library.{_≡_, refl, sym, ap, _∙_, subst, Bool, true, List, [], _∷_, _++_, map, append-assoc, append-nil, ⊎-elim, ℕ, _+_, _*_, _-_}
+use Rattle.laws.proofs.Library.{_/_, _%_, _^_, _≤_, _<_, arith, needs, length, take, drop, drop-of-length-le, drop-drop}
 use Rattle.rules.specs.Limits.{narrow}
 use Rattle.rules.specs.Strings.{field, strOf}
 use Rattle.rules.specs.Packed.{bitsOf, stringBits, stringsBits}
@@ -128,15 +121,6 @@ loop-holds c =
       record { bits = refl; kept = refl; few = g .pre .1 .few; fewer = λ e. e; moved = refl; short = g .pre .0; long = refl },
     )
 
-mul-s : tie.Need-mul-s Inv-loop μ-loop
-mul-s c = search needs
-
-shared-slice-read-s : tie.Need-shared-slice-read-s Inv-loop μ-loop
-shared-slice-read-s c = search needs
-
-add-w : tie.Need-add-w Inv-loop μ-loop
-add-w c = search needs
-
 shl-acc : tie.Need-shl-acc Inv-loop μ-loop
 shl-acc c =
     let l = c .before .before in
@@ -175,15 +159,6 @@ put-four-requires c κs =
     let going = l .loop .inv .1 in
     omega (arith, c .before .if1 .taken, going .long, g .pre .1 .room, next-room going _ _ (words-cons (g .args .n .now) (l .loop .i) (omega arith)))
 
-add-at : tie.Need-add-at Inv-loop μ-loop
-add-at c = search needs
-
-add-i : tie.Need-add-i Inv-loop μ-loop
-add-i c = search needs
-
-loop-less : tie.Need-loop-less Inv-loop μ-loop
-loop-less c = search needs
-
 loop-again : tie.Need-loop-again Inv-loop μ-loop
 loop-again c =
     let l = c .before .before .before .before in
@@ -198,9 +173,6 @@ loop-again c =
           (c .if1 .came),
     )
 
-same-length : tie.Need-same-length Inv-loop μ-loop
-same-length c = search needs
-
 returns : tie.Need-returns Inv-loop μ-loop
 returns c =
     let l = c .before .loop in
@@ -209,24 +181,6 @@ returns c =
     (drop-of-length-le (g .args .n .now) {i = l .i} (omega arith)) (l .inv .1)
 
 pub put-strings-spec : {M : Type 1} → statement M
-put-strings-spec =
-    tie.close
-    (tie.spec
-    Inv-loop
-    μ-loop
-    loop-holds
-    mul-s
-    shared-slice-read-s
-    add-w
-    shl-acc
-    string-bits-requires
-    add-acc
-    add-held
-    shr-put-four
-    put-four-requires
-    add-at
-    add-i
-    loop-less
-    loop-again
-    same-length
-    returns)
+put-strings-spec = tie.close (tie.spec Inv-loop μ-loop loop-holds (λ c. search needs) (λ c. search needs) (λ c. search needs) shl-acc
+    string-bits-requires add-acc add-held shr-put-four put-four-requires (λ c. search needs) (λ c. search needs) (λ c. search needs) loop-again
+    (λ c. search needs) returns)

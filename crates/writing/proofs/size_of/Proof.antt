@@ -1,11 +1,5 @@
 -- `writing::size_of` meets its contract: a name that fits has bits, so that none tells of one that does not. Assumes nothing.
-use mathlib.Core.Path.{_≡_, refl, sym, ap₂, _∙_}
-use mathlib.Core.Bool.{Bool, true, false, cond, and-false}
-use mathlib.Core.List.{List, map}
-use Prim.Native.Nat.{ℕ, _+_, _≤_}
-use native.Mathlib.Omega.{arith}
-use borrow.Author.Needs.{needs}
-use lib.ListN.{length}
+use Rattle.laws.proofs.Library.{_≡_, refl, sym, ap₂, _∙_, Bool, true, false, cond, and-false, List, map, ℕ, _+_, _≤_, arith, needs, length}
 use Rattle.rules.specs.Limits.{narrow, bytesFor}
 use Rattle.rules.specs.Strings.{strOf}
 use Rattle.rules.specs.Packed.{nameBits, packed}
@@ -59,12 +53,6 @@ unfolding fits
 both u i r s p q e f =
     rw (e, f) (ap₂ (λ (a b : ℕ). bytesFor (a + b)) (all-bits u r p e) (all-bits i s q f) ∙ sym (names-length narrow (stampOf u i)))
 
-bits-of-requires : tie.Need-bits-of-requires
-bits-of-requires c κs = search needs
-
-bits-of-requires-2 : tie.Need-bits-of-requires-2
-bits-of-requires-2 c κs = search needs
-
 returns : tie.Need-returns
 returns c =
     let i = c .before in
@@ -101,13 +89,4 @@ returns-3 c =
     (some (g .id .now) (i .bits-of2 .result) (i .bits-of2 .ensures) (c .if2 .left))
 
 pub size-of-spec : {M : Type 1} → statement M
-size-of-spec =
-    tie.close
-    (tie.spec
-    bits-of-requires
-    bits-of-requires-2
-    returns
-    returns-2
-    add-result
-    add-result-2
-    returns-3)
+size-of-spec = tie.close (tie.spec (λ c κs. search needs) (λ c κs. search needs) returns returns-2 add-result add-result-2 returns-3)

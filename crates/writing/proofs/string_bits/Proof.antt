@@ -1,12 +1,6 @@
 -- `writing::string_bits` meets its contract: turned, the word has its length above the 58 bits that begin with its digits. Assumes nothing.
-use mathlib.Core.Path.{_≡_, refl, sym, ap, ap₂, _∙_}
-use mathlib.Core.Bool.{Bool}
-use mathlib.Core.List.{List, _++_}
-use Prim.Native.Nat.{ℕ, _+_, _*_, _-_, _/_, _%_, _^_, _≤_, _<_}
-use native.Mathlib.Omega.{arith}
-use borrow.Author.Needs.{needs}
-use lib.Pow.{shr-lt, shr-shr, high, low}
-use lib.ListN.{take}
+use Rattle.laws.proofs.Library.{_≡_, refl, sym, ap, ap₂, _∙_, Bool, List, _++_, ℕ, _+_, _*_, _-_, _/_, _%_, _^_, _≤_, _<_, arith, needs, shr-lt, shr-shr}
+use Rattle.laws.proofs.Library.{high, low, take}
 use Rattle.rules.specs.Limits.{narrow}
 use Rattle.rules.specs.Strings.{field, strOf}
 use Rattle.rules.specs.Packed.{stringBits}
@@ -54,12 +48,6 @@ turned-is s = ap (λ (n : ℕ). n + s / 2 ^ 6) (shifted s 6 58)
 add-turned : tie.Need-add-turned
 add-turned c = record { fits = push-lt (c .args .s) 6 58 (c .args .s / 2 ^ 6) refl (rest-lt (c .args .s) (c .fits .s .fits)) }
 
-sub-result : tie.Need-sub-result
-sub-result c = search needs
-
-shr-result : tie.Need-shr-result
-shr-result c = search needs
-
 returns : tie.Need-returns
 returns c =
     let s = c .args .s in
@@ -67,4 +55,4 @@ returns c =
     (number-lt s (s % 64) _ word refl (c .pre) (turned-is s), bits-are s (s % 64) _ word refl (c .pre) (turned-is s))
 
 pub string-bits-spec : {M : Type 1} → statement M
-string-bits-spec = tie.close (tie.spec add-turned sub-result shr-result returns)
+string-bits-spec = tie.close (tie.spec add-turned (λ c. search needs) (λ c. search needs) returns)

@@ -1,13 +1,6 @@
 -- `writing::write_both` meets its contract: the sizes tell that both stamps fit, and the room in both buffers is tested before a byte is written.
 -- Assumes nothing.
-use mathlib.Core.Path.{_≡_, ap, _∙_}
-use mathlib.Core.Bool.{true, false}
-use mathlib.Core.List.{List}
-use Prim.Native.Nat.{ℕ, _≤_, _<_}
-use native.Mathlib.Omega.{arith}
-use borrow.Author.Needs.{needs}
-use borrow.Author.Tests.{lt-ltb, le-ltb}
-use lib.ListN.{length}
+use Rattle.laws.proofs.Library.{_≡_, ap, _∙_, true, false, List, ℕ, _≤_, _<_, arith, needs, lt-ltb, le-ltb, length}
 use Rattle.rules.specs.Limits.{narrow}
 use Rattle.rules.specs.Refusals.{first}
 use Rattle.rules.specs.Packed.{packed, over, wroteTwo}
@@ -69,12 +62,6 @@ module _ (c : tie.After-size-of2) where
   abbrev into2 : List ℕ
   into2 = start .args .one .now
 
-size-of-requires : tie.Need-size-of-requires
-size-of-requires c κs = search needs
-
-size-of-requires-2 : tie.Need-size-of-requires-2
-size-of-requires-2 c κs = search needs
-
 returns : tie.Need-returns
 returns c =
     let s = c .before in
@@ -126,19 +113,10 @@ module _ (c : tie.Else4) where
   y-room : length (packed narrow (stampOf (upd sized) (two-id sized))) ≤ length (into2 sized)
   y-room = omega (arith, c .if4 .left, size-is (upd sized) (two-id sized) _ (sized .size-of2 .ensures) (c .before .before .if2 .left))
 
-put-stamp-requires : tie.Need-put-stamp-requires
-put-stamp-requires c κs = (x-fits (c .before), x-room (c .before))
-
 put-stamp-requires-2 : tie.Need-put-stamp-requires-2
 put-stamp-requires-2 c κs =
     let e = c .before .before .before .before .before in
     (y-fits e, y-room e)
-
-same-length : tie.Need-same-length
-same-length c = search needs
-
-same-length-2 : tie.Need-same-length-2
-same-length-2 c = search needs
 
 returns-5 : tie.Need-returns-5
 returns-5 c =
@@ -150,17 +128,5 @@ returns-5 c =
     (ap Bytes (x-size e) ∙ w .0, p .put-stamp .ensures ∙ w .1, q .put-stamp2 .ensures ∙ w .2)
 
 pub write-both-spec : {M : Type 1} → statement M
-write-both-spec =
-    tie.close
-    (tie.spec
-    size-of-requires
-    size-of-requires-2
-    returns
-    returns-2
-    returns-3
-    returns-4
-    put-stamp-requires
-    put-stamp-requires-2
-    same-length
-    same-length-2
-    returns-5)
+write-both-spec = tie.close (tie.spec (λ c κs. search needs) (λ c κs. search needs) returns returns-2 returns-3 returns-4
+    (λ c κs. (x-fits (c .before), x-room (c .before))) put-stamp-requires-2 (λ c. search needs) (λ c. search needs) returns-5)

@@ -1,12 +1,5 @@
 -- `writing::write_from` meets its contract: a size tells that the names fit, and the room is tested before a byte is written. Assumes nothing.
-use mathlib.Core.Path.{_≡_, ap, _∙_}
-use mathlib.Core.Bool.{true, false}
-use mathlib.Core.List.{List}
-use Prim.Native.Nat.{ℕ, _≤_, _<_}
-use native.Mathlib.Omega.{arith}
-use borrow.Author.Needs.{needs}
-use borrow.Author.Tests.{lt-ltb, le-ltb}
-use lib.ListN.{length}
+use Rattle.laws.proofs.Library.{_≡_, ap, _∙_, true, false, List, ℕ, _≤_, _<_, arith, needs, lt-ltb, le-ltb, length}
 use Rattle.rules.specs.Limits.{narrow}
 use Rattle.rules.specs.Refusals.{first}
 use Rattle.rules.specs.Packed.{packed, over, wrote}
@@ -37,9 +30,6 @@ module _ (u i : List ℕ) where
   unfolding writtenNames first wrote
   laid l e h = simp (e, le-ltb (length l) (length bytes) h)
 
-size-of-requires : tie.Need-size-of-requires
-size-of-requires c κs = search needs
-
 returns : tie.Need-returns
 returns c =
     let s = c .before in
@@ -64,9 +54,6 @@ put-stamp-requires c κs =
     let there = c .before .before .if1 .left in
     (size-some u i _ (s .size-of .ensures) there, omega (arith, c .before .if2 .left, size-is u i _ (s .size-of .ensures) there))
 
-same-length : tie.Need-same-length
-same-length c = search needs
-
 returns-3 : tie.Need-returns-3
 returns-3 c =
     let p = c .before .before in
@@ -80,6 +67,4 @@ returns-3 c =
     (ap Bytes is ∙ w .0, p .put-stamp .ensures ∙ w .1)
 
 pub write-from-spec : {M : Type 1} → statement M
-write-from-spec =
-    tie.close
-    (tie.spec size-of-requires returns returns-2 put-stamp-requires same-length returns-3)
+write-from-spec = tie.close (tie.spec (λ c κs. search needs) returns returns-2 put-stamp-requires (λ c. search needs) returns-3)

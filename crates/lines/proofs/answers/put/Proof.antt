@@ -1,12 +1,6 @@
 -- `lines::answers::put` meets its contract. The loop's invariant: what is left of the word, stored from here on, is the whole word stored.
 -- The measure is what is left. Assumes nothing.
-use borrow.Author.Needs.{needs}
-use mathlib.Core.Path.{_≡_, refl, sym, _∙_}
-use Prim.Native.Nat.{_+_, _-_, _≤_}
-use native.Mathlib.Nat.{add-zero}
-use native.Mathlib.Omega.{arith}
-use lib.ListN.{length, drop, drop-of-length-le}
-use lib.Seq.{sets}
+use Rattle.laws.proofs.Library.{needs, _≡_, refl, sym, _∙_, _+_, _-_, _≤_, add-zero, arith, length, drop, drop-of-length-le, sets}
 use Rattle.lines.proofs.Stores.{put-step}
 use Rattle.lines.proofs.answers.put.Statement.{statement}
 use Rattle.lines.proofs.answers.put.Tie as tie
@@ -17,35 +11,11 @@ Inv-loop out₀ at word i₀ out i = (i ≤ length word) × (length out ≡ leng
 abbrev μ-loop : tie.MeasureT-loop
 μ-loop out₀ at word i₀ out i = length word - i
 
-loop-holds : tie.Need-loop-holds Inv-loop μ-loop
-loop-holds c = (search needs, refl, rw add-zero)
-
-shared-slice-read-out : tie.Need-shared-slice-read-out Inv-loop μ-loop
-shared-slice-read-out c = search needs
-
-add-out : tie.Need-add-out Inv-loop μ-loop
-add-out c = search needs
-
-slice-write-out : tie.Need-slice-write-out Inv-loop μ-loop
-slice-write-out c = search needs
-
-add-i : tie.Need-add-i Inv-loop μ-loop
-add-i c = search needs
-
-loop-less : tie.Need-loop-less Inv-loop μ-loop
-loop-less c = search needs
-
 loop-again : tie.Need-loop-again Inv-loop μ-loop
 loop-again c =
     let l = c .before .before in
     let g = l .before .args in
     (search needs, search needs, sym (put-step (g .word .now) (l .loop .out) (g .at) (l .loop .i) (omega arith)) ∙ l .loop .inv .2)
-
-add-result : tie.Need-add-result Inv-loop μ-loop
-add-result c = search needs
-
-same-length : tie.Need-same-length Inv-loop μ-loop
-same-length c = search needs
 
 returns : tie.Need-returns Inv-loop μ-loop
 returns c =
@@ -54,18 +24,5 @@ returns c =
     record { place = omega arith; bytes = rw (drop-of-length-le (g .word .now) {i = l .loop .i} (omega arith)) at (l .loop .inv .2) }
 
 pub put-spec : {M : Type 1} → statement M
-put-spec =
-    tie.close
-    (tie.spec
-    Inv-loop
-    μ-loop
-    loop-holds
-    shared-slice-read-out
-    add-out
-    slice-write-out
-    add-i
-    loop-less
-    loop-again
-    add-result
-    same-length
-    returns)
+put-spec = tie.close (tie.spec Inv-loop μ-loop (λ c. (search needs, refl, rw add-zero)) (λ c. search needs) (λ c. search needs) (λ c. search needs)
+    (λ c. search needs) (λ c. search needs) loop-again (λ c. search needs) (λ c. search needs) returns)

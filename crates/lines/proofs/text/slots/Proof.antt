@@ -1,23 +1,11 @@
 -- `lines::text::slots` meets its contract: without a space in the rest it is one slot, else what stands before it and behind it are two.
 -- Assumes nothing.
-use mathlib.Core.Path.{ap, ap₂, _∙_}
-use native.Mathlib.Omega.{arith}
-use lib.ListN.{length-take}
+use Rattle.laws.proofs.Library.{ap, ap₂, _∙_, arith, length-take, needs}
 use Rattle.lines.specs.Inner.{oneCommand, twoCommand}
 use Rattle.lines.proofs.Splits.{first-inside}
 use Rattle.lines.proofs.Reading.{one-rest, two-rest}
-use borrow.Author.Needs.{needs}
 use Rattle.lines.proofs.text.slots.Statement.{statement}
 use Rattle.lines.proofs.text.slots.Tie as tie
-
-first-space-requires : tie.Need-first-space-requires
-first-space-requires c κs = search needs
-
-slot-requires : tie.Need-slot-requires
-slot-requires c κs = search needs
-
-with-one-requires : tie.Need-with-one-requires
-with-one-requires c κs = search needs
 
 returns : tie.Need-returns
 returns c =
@@ -40,9 +28,6 @@ slice-aggregate-slot c =
     let h = first-inside 32 (i .before .before .before .args .rest .now) (i .before .first-space .result) (i .before .first-space .ensures) (i .if1 .left) in
     simp length-take (omega arith)
 
-slot-requires-2 : tie.Need-slot-requires-2
-slot-requires-2 c κs = search needs
-
 sub-slot : tie.Need-sub-slot
 sub-slot c =
     let i = c .before .before in
@@ -54,15 +39,6 @@ part-slot-start c =
     let i = c .before .before in
     let h = first-inside 32 (i .before .before .before .args .rest .now) (i .before .first-space .result) (i .before .first-space .ensures) (i .if1 .left) in
     omega arith
-
-part-slot-end : tie.Need-part-slot-end
-part-slot-end c = search needs
-
-slot-requires-3 : tie.Need-slot-requires-3
-slot-requires-3 c κs = search needs
-
-with-two-requires : tie.Need-with-two-requires
-with-two-requires c κs = search needs
 
 returns-2 : tie.Need-returns-2
 returns-2 c =
@@ -77,19 +53,5 @@ returns-2 c =
     ∙ two-rest (g .letter) (g .rest .now) (k .first-space .result) (k .first-space .ensures) h
 
 pub slots-spec : {M : Type 1} → statement M
-slots-spec =
-    tie.close
-    (tie.spec
-    first-space-requires
-    slot-requires
-    with-one-requires
-    returns
-    add-from
-    slice-aggregate-slot
-    slot-requires-2
-    sub-slot
-    part-slot-start
-    part-slot-end
-    slot-requires-3
-    with-two-requires
-    returns-2)
+slots-spec = tie.close (tie.spec (λ c κs. search needs) (λ c κs. search needs) (λ c κs. search needs) returns add-from slice-aggregate-slot
+    (λ c κs. search needs) sub-slot part-slot-start (λ c. search needs) (λ c κs. search needs) (λ c κs. search needs) returns-2)

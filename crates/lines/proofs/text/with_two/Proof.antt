@@ -1,9 +1,5 @@
 -- `lines::text::with_two` meets its contract: without two slots nothing is said; with both the letter decides. Assumes nothing.
-use borrow.Author.Needs.{needs}
-use borrow.Author.Tests.{lt-ltb, le-ltb, ne-eqb}
-use mathlib.Core.Path.{_≡_, _∙_}
-use mathlib.Core.Logic.{_⊎_, inl, inr, ⊎-elim}
-use Prim.Native.Nat.{ℕ, _<_}
+use Rattle.laws.proofs.Library.{needs, lt-ltb, le-ltb, ne-eqb, _≡_, _∙_, _⊎_, inl, inr, ⊎-elim, ℕ, _<_}
 use Rattle.lines.specs.declared.Command.{Command}
 use Rattle.lines.specs.Commands.{unread}
 use Rattle.lines.specs.Inner.{twoCommand}
@@ -20,20 +16,11 @@ one-of c a b h i k = rw (lt-ltb a 100 h, lt-ltb b 100 i) (⊎-elim (λ e. rw e) 
 none-of : (c a b : ℕ) → (Letter c → ⊥) → unread ≡ twoCommand c a b
 none-of c a b k = rw (ne-eqb c 74 (λ e. k (inr e)), ne-eqb c 67 (λ e. k (inl e)), and-false)
 
-unreadable-requires : tie.Need-unreadable-requires
-unreadable-requires c κs = search needs
-
 returns : tie.Need-returns
 returns c = c .unreadable .ensures ∙ simp (le-ltb _ _ (c .before .if1 .taken))
 
-unreadable-requires-2 : tie.Need-unreadable-requires-2
-unreadable-requires-2 c κs = search needs
-
 returns-2 : tie.Need-returns-2
 returns-2 c = c .unreadable2 .ensures ∙ simp (le-ltb _ _ (c .before .if2 .taken), and-false)
-
-unreadable-requires-3 : tie.Need-unreadable-requires-3
-unreadable-requires-3 c κs = search needs
 
 returns-3 : tie.Need-returns-3
 returns-3 c = one-of _ _ _ (c .before .before .if1 .left) (c .before .if2 .left) (c .match .keys1)
@@ -42,13 +29,4 @@ returns-4 : tie.Need-returns-4
 returns-4 c = let g = c .before .before .before .before .args in c .unreadable3 .ensures ∙ none-of (g .letter) (g .a) (g .b) (c .before .match .rest .1)
 
 pub with-two-spec : {M : Type 1} → statement M
-with-two-spec =
-    tie.close
-    (tie.spec
-    unreadable-requires
-    returns
-    unreadable-requires-2
-    returns-2
-    unreadable-requires-3
-    returns-3
-    returns-4)
+with-two-spec = tie.close (tie.spec (λ c κs. search needs) returns (λ c κs. search needs) returns-2 (λ c κs. search needs) returns-3 returns-4)
