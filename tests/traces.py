@@ -361,18 +361,25 @@ def check(command, seed):
 
 # The tests tested
 
-def found_by(slip):
-    """Which tests find out the program with that slip."""
-    command, found = [sys.executable, os.path.join(HERE, "wrong.py"), slip], []
-    for name, part in PARTS.items():
+def examples(command):
+    """The worked histories."""
+    if subprocess.run([os.path.join(HERE, "examples"), *command], stdout=subprocess.DEVNULL).returncode != 0:
+        raise Wrong("the worked histories")
+
+
+FINDERS = {**{name: lambda command, part=part: part(command, Count(), "1", 6) for name, part in PARTS.items()}, "examples": examples}
+
+
+def found_by(slip, first):
+    """Which test finds out the program with that slip: they are tried one after the other, from number FIRST on; none may find the model itself out."""
+    command, names = [sys.executable, os.path.join(HERE, "wrong.py"), slip], list(FINDERS)
+    for name in names[first:] + names[:first]:
         try:
             with contextlib.redirect_stdout(io.StringIO()):
-                part(command, Count(), "1", 6)
+                FINDERS[name](command)
         except Wrong:
-            found.append(name)
-    if subprocess.run([os.path.join(HERE, "examples"), *command], stdout=subprocess.DEVNULL).returncode != 0:
-        found.append("examples")
-    return found
+            return name
+    return None
 
 
 def self_test():
@@ -380,12 +387,13 @@ def self_test():
     missed = []
     slips = ["none", *wrong.NAMES]
     with concurrent.futures.ProcessPoolExecutor(os.cpu_count()) as pool:
-        for slip, found in zip(slips, pool.map(found_by, slips)):
-            tests.update(found)
-            print("%s: %s" % (slip, "found by " + ", ".join(found) if found else "passes"), flush=True)
+        for slip, found in zip(slips, pool.map(found_by, slips, (n % len(FINDERS) for n in range(len(slips))))):
+            print("%s: %s" % (slip, "found by " + found if found else "passes"), flush=True)
             if bool(found) != (slip != "none"):
                 missed.append(slip)
-    if missed or set(tests) != {*PARTS, "examples"}:
+            if found:
+                tests[found] += 1
+    if missed or set(tests) != set(FINDERS):
         sys.exit("WRONG: judged wrongly: %s; found by %s" % (missed, dict(tests)))
     print("self-test: %d wrong programs, all found out (%s); the model passes"
           % (len(wrong.NAMES), ", ".join("%d by %s" % (n, name) for name, n in tests.items())))
