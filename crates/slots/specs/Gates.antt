@@ -18,10 +18,6 @@ codeOf r = 1000 + number r
 unfoldable pub gateCode : ℕ → ℕ → ℕ → ℕ
 gateCode n a b = cond (eqb n 0 || ltb records n) (codeOf Unfit) (cond (leb n a || leb n b) (codeOf NoSlot) 0)
 
--- how many slots there are to go over: all, or none where the table is too large
-unfoldable pub spanOf : ℕ → ℕ
-spanOf n = cond (ltb records n) 0 n
-
 -- what a fresh table has in slot i
 unfoldable pub freshSlot : ℕ → Record
 freshSlot i = cond (eqb i 0) (stored narrow start) (blank narrow)

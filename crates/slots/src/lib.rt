@@ -1,31 +1,22 @@
 // The table's rules by value: what is asked of numbers alone, and what a call answers and leaves in the records that it names. A rule is
-// total: it takes records of any content, and one that refuses gives back what it got. Answers are numbers, as slotNumber,
-// comparedNumber and sparedNumber of the rules say.
+// total: it takes records of any content, and one that refuses gives back what it got. Answers are numbers, as slotNumber and
+// comparedNumber of the rules say.
 ghost use mathlib.Core.Path.{_≡_};
 ghost use mathlib.Core.List.{[]};
-ghost use Prim.Native.Nat.{_≤_};
 ghost use Rattle.rules.specs.Limits.{narrow};
 ghost use Rattle.rules.specs.Refusals.{first};
 ghost use Rattle.rules.specs.Stored.{absent};
-ghost use Rattle.slots.specs.Gates.{gateCode, spanOf, freshSlot};
+ghost use Rattle.slots.specs.Gates.{gateCode, freshSlot};
 ghost use Rattle.slots.specs.Rules.{tableCode, answerCode, fullCode, slotTests, pairTests, updateRule, forkRule, joinRule, compareRule};
-ghost use Rattle.slots.specs.Scans.{absentOrNext, weighed, weighStart, onwardTo, foundOr, obsoleteNumber, spareCode, meetCode};
 use answers::compared_code;
 use answers::refusal_code;
-use names::counted;
 use names::is_zero_from;
 use rules::Answer;
-use rules::Compared;
 use rules::Record;
-use rules::Verdict;
 use stamps::blank;
-use stamps::is_lawful_in;
 
 // A table has at most so many records.
 pub const RECORDS: usize = 32;
-
-// Where a pass over the table stands is one number: the slot that comes next, or, past every slot, this and what was found.
-const FOUND: usize = 1000;
 
 // Refusals as answers of the table: 1,000 and the number that the rules give each.
 const UNLAWFUL: u64 = 1002;
@@ -36,7 +27,7 @@ const ONE_SLOT: u64 = 1004;
 
 const FULL: u64 = 1005;
 
-const UNFIT: u64 = 1012;
+pub const UNFIT: u64 = 1012;
 
 // What a rule answers and leaves in one record.
 pub struct One {
@@ -49,13 +40,6 @@ pub struct Two {
     pub code: u64,
     pub first: Record,
     pub second: Record,
-}
-
-// A search for a copy that makes slot `at` obsolete, whose record is `mine`: where the pass over the table begins.
-pub struct Scan {
-    pub from: usize,
-    pub at: usize,
-    pub mine: Record,
 }
 
 // What can be refused without looking at a record: 0, or the refusal.
@@ -75,16 +59,6 @@ pub fn gate(n: usize, a: usize, b: usize) -> u64
         return NO_SLOT;
     }
     0
-}
-
-// How many slots of n there are to go over: all, or none where the table is too large.
-pub fn span(n: usize) -> usize
-    ensures { λ r. ⌜ r ≡ spanOf n ⌝ }
-{
-    if RECORDS < n {
-        return 0;
-    }
-    n
 }
 
 // What a fresh table has in slot i.
@@ -224,56 +198,17 @@ pub fn is_absent(r: Record) -> bool
     false
 }
 
-// Whether slot k is absent: the next slot, or FOUND and k.
-pub fn absent_or_next(k: usize, r: Record) -> usize
-    ensures { λ n. ⌜ n ≡ absentOrNext k r ⌝ }
+// What is asked of a slot's record first: 0, or the refusal.
+pub fn slot_code(r: Record) -> u64
+    ensures { λ n. ⌜ n ≡ answerCode (first (slotTests r [])) 0 ⌝ }
 {
-    if RECORDS <= k {
-        return k;
-    }
     if is_absent(r) {
-        return FOUND + k;
+        return NO_SLOT;
     }
-    k + 1
-}
-
-// The search that begins at the first slot, or is answered where slot a's record r is refused.
-pub fn weigh_start(a: usize, r: Record) -> Scan
-    ensures { λ s. ⌜ s ≡ weighStart a r ⌝ }
-{
-    let from = onward(0, slot_code(r));
-    Scan {
-        from: from,
-        at: a,
-        mine: r,
+    if stamps::is_lawful(r) {
+        return 0;
     }
-}
-
-// Slot k's record beside that of the search: the next slot, or FOUND and the answer. The slot itself and absent ones are passed over.
-pub fn weigh(s: Scan, k: usize, r: Record, absent: bool) -> usize
-    ensures { λ n. ⌜ n ≡ weighed s k r absent ⌝ }
-{
-    let at = s.at;
-    if RECORDS <= k {
-        return k;
-    }
-    if at == k {
-        return k + 1;
-    }
-    if absent {
-        return k + 1;
-    }
-    onward(k + 1, meet_code(s.mine, r))
-}
-
-// What a pass that ended at k has found, or d.
-pub fn found_or(k: usize, d: usize) -> usize
-    ensures { λ n. ⌜ n ≡ foundOr k d ⌝ }
-{
-    if k < FOUND {
-        return d;
-    }
-    k - FOUND
+    UNFIT
 }
 
 // What a fork of the record is refused for where no slot is absent.
@@ -302,19 +237,6 @@ fn pair_code(a: usize, b: usize, s: Record, u: Record) -> u64
     0
 }
 
-// What is asked of a slot's record first: 0, or the refusal.
-fn slot_code(r: Record) -> u64
-    ensures { λ n. ⌜ n ≡ answerCode (first (slotTests r [])) 0 ⌝ }
-{
-    if is_absent(r) {
-        return NO_SLOT;
-    }
-    if stamps::is_lawful(r) {
-        return 0;
-    }
-    UNFIT
-}
-
 // A number at the table: what a rule by value refuses as unlawful, 2, is 12 here.
 fn table_code(n: u64) -> u64
     ensures { λ r. ⌜ r ≡ tableCode n ⌝ }
@@ -323,53 +245,4 @@ fn table_code(n: u64) -> u64
         return UNFIT;
     }
     n
-}
-
-// Where a pass goes on: at slot k while there is no answer, 0.
-fn onward(k: usize, answer: u64) -> usize
-    requires { ⌜ answer ≤ 2000 ⌝ }
-    ensures { λ n. ⌜ n ≡ onwardTo k answer ⌝ }
-{
-    if answer == 0 {
-        return k;
-    }
-    FOUND + answer as usize
-}
-
-// What m, which is lawful, is told beside r: 1 where it may go, 0 where it is kept, or the refusal.
-fn meet_code(m: Record, r: Record) -> u64
-    ensures { λ n. ⌜ n ≡ meetCode m r ⌝ }
-{
-    if is_lawful_in(&r.update.words, r.update.count, &r.id.words, r.id.count) {
-        let c = walks::compare(
-            counted(&m.update.words, m.update.count),
-            counted(&m.id.words, m.id.count),
-            counted(&r.update.words, r.update.count),
-            counted(&r.id.words, r.id.count),
-        );
-        return spare_code(c);
-    }
-    UNFIT
-}
-
-// 1 where the comparison lets the first go, 0 where it keeps it.
-fn spare_code(c: Compared) -> u64
-    ensures { λ n. ⌜ n ≡ spareCode c ⌝ }
-{
-    match c {
-        Compared::Is(v) => is_obsolete(v),
-        Compared::Refused(r) => refusal_code(r),
-    }
-}
-
-// 1 where the first is obsolete, else 0.
-fn is_obsolete(v: Verdict) -> u64
-    ensures { λ n. ⌜ n ≡ obsoleteNumber v ⌝ }
-{
-    match v {
-        Verdict::Equal => 0,
-        Verdict::Obsolete => 1,
-        Verdict::Newer => 0,
-        Verdict::Conflict => 0,
-    }
 }

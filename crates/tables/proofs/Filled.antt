@@ -7,7 +7,8 @@ use Rattle.rules.specs.Refusals.{first}
 use Rattle.rules.specs.Stamps.{start}
 use Rattle.rules.specs.Stored.{stored, blank}
 use Rattle.rules.specs.Tables.{Table, outside, badSize, freshTable, makeFresh, slotNumber}
-use Rattle.slots.specs.Gates.{gateCode, spanOf, freshSlot}
+use Rattle.slots.specs.Gates.{gateCode, freshSlot}
+use Rattle.scans.specs.Scans.{spanOf}
 
 -- the first i slots filled
 unfoldable pub filledTo : ℕ → Table → Table

@@ -18,9 +18,9 @@ use Rattle.rules.specs.declared.Verdict.{Verdict}
 use Rattle.rules.specs.declared.Verdict.the-variants.{Equal, Obsolete, Newer, Conflict}
 use Rattle.walks.specs.Walks.{front, compareWalk}
 use Rattle.walks.proofs.Meets.{compare-walk}
-use Rattle.slots.specs.declared.Scan.{Scan}
-use Rattle.slots.specs.Gates.{codeOf, spanOf}
-use Rattle.slots.specs.Scans.{found, foundOr, onwardTo, absentOrNext, weighed, weighOf, obsoleteNumber, spareCode, meetCode}
+use Rattle.slots.specs.Gates.{codeOf}
+use Rattle.scans.specs.declared.Scan.{Scan}
+use Rattle.scans.specs.Scans.{spanOf, found, foundOr, onwardTo, absentOrNext, weighed, weighOf, obsoleteNumber, spareCode, meetCode}
 use Rattle.tables.specs.Passes.{passOf, within, scanOf}
 
 -- ---- any pass

@@ -7,8 +7,8 @@ use Rattle.slots.proofs.One as O
 use Rattle.slots.proofs.One.Laws as O′
 use Rattle.slots.proofs.Two as D
 use Rattle.slots.proofs.Two.Laws as D′
-use Rattle.slots.proofs.Scan as S
-use Rattle.slots.proofs.Scan.Laws as S′
+use Rattle.scans.proofs.Scan as S
+use Rattle.scans.proofs.Scan.Laws as S′
 use Rattle.frames.proofs.Rows.{Plainly, number, struct, Ins}
 
 abbrev pub item : Plainly

@@ -15,11 +15,11 @@ use Rattle.rules.specs.declared.Answer.{Answer}
 use Rattle.rules.specs.declared.Answer.the-variants.{Done, Refused}
 use Rattle.rules.specs.declared.Refusal.the-variants.{Long, Many}
 use Rattle.rules.specs.declared.Verdict.the-variants.{Equal}
-use Rattle.slots.specs.declared.Scan.{Scan}
 use Rattle.slots.specs.Gates.{gateCode}
 use Rattle.slots.specs.Rules.{answerCode, oneOf, twoOf, slotTests, pairTests, meetTests, updateRule, forkRule, joinRule, compareRule}
+use Rattle.scans.specs.declared.Scan.{Scan}
+use Rattle.scans.specs.Scans.{foundOr, onwardTo, absentOrNext, weighOf, weighStart}
 use Rattle.tables.specs.Forks.{forkCode, forkList}
-use Rattle.slots.specs.Scans.{foundOr, onwardTo, absentOrNext, weighOf, weighStart}
 use Rattle.tables.specs.Passes.{scanOf}
 use Rattle.tables.proofs.Passes.{sought-slot, lowest-le, lowest-absent, answered, weighed-all}
 

@@ -7,7 +7,7 @@ use lib.ListN.{length, drop}
 use Rattle.rules.specs.Limits.{records}
 use Rattle.rules.specs.Tables.{Table}
 use Rattle.rules.specs.declared.Record.{Record}
-use Rattle.slots.specs.Scans.{found}
+use Rattle.scans.specs.Scans.{found}
 
 -- over the records from slot k on, until something is found
 unfoldable pub passOf : (ℕ → Record → ℕ) → ℕ → Table → ℕ

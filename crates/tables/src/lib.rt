@@ -5,19 +5,19 @@ ghost use mathlib.Core.Path.{_≡_};
 ghost use Rattle.rules.specs.Limits.{narrow};
 ghost use Rattle.rules.specs.Packed.{comparedNumber};
 ghost use Rattle.rules.specs.Tables.{slotNumber, sparedNumber, makeFresh, updateAt, forkAt, joinAt, compareAt, spareAt};
-ghost use Rattle.slots.specs.Scans.{foundOr, absentOrNext, weighOf};
+ghost use Rattle.scans.specs.Scans.{foundOr, absentOrNext, weighOf};
 ghost use Rattle.tables.specs.Passes.{scanOf};
 ghost use Rattle.tables.specs.Forks.{forkCode, forkList};
 use rules::Record;
-use slots::Scan;
-use slots::absent_or_next;
-use slots::found_or;
+use scans::Scan;
+use scans::absent_or_next;
+use scans::found_or;
+use scans::span;
+use scans::weigh;
+use scans::weigh_start;
 use slots::fresh_slot;
 use slots::gate;
 use slots::is_absent;
-use slots::span;
-use slots::weigh;
-use slots::weigh_start;
 
 // A fresh table: [e|e] in slot 0 and nothing else. 0, or 1012.
 pub fn fresh(t: &mut [Record]) -> u64

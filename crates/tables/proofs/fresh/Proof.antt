@@ -9,12 +9,13 @@ use contract.Lifetimes.{Lfts}
 use denote.Slice.{sliceVal}
 use Rattle.rules.specs.declared.Record.{Record}
 use Rattle.rules.proofs.Record as T
-use Rattle.slots.specs.Gates.{gateCode, spanOf, freshSlot}
+use Rattle.slots.specs.Gates.{gateCode, freshSlot}
+use Rattle.scans.specs.Scans.{spanOf}
 use Rattle.tables.proofs.Asks.{holds-true, holds-false}
 use Rattle.tables.proofs.Filled.{filledTo, filled-more, filled-length, fresh-is, span-le}
 use Rattle.tables.proofs.Slots.{item, gateOf}
-use Rattle.slots.proofs.span.Symbol as span-def
-use Rattle.slots.proofs.span.Met as span-thm
+use Rattle.scans.proofs.span.Symbol as span-def
+use Rattle.scans.proofs.span.Met as span-thm
 use Rattle.slots.proofs.gate.Symbol as gate-def
 use Rattle.slots.proofs.gate.Met as gate-thm
 use Rattle.slots.proofs.fresh_slot.Symbol as slot-def
@@ -98,7 +99,7 @@ fresh-spec 𝓤 H 𝓜 𝓖 𝓡 =
     entered 𝓤 H _ (tables 𝓤 H 𝓜 𝓡 code.env .C) (tables 𝓤 H 𝓜 𝓡 code.env .Λ) #fresh code.function (code.unfolded 𝓤 H 𝓜 𝓡)
     (lends-as item [] number 𝓤 H (𝓖 .A) (givenOf 𝓤 H 𝓜 𝓖) (tablesOf 𝓤 H 𝓜 (tables 𝓤 H 𝓜 𝓡 code.env)) code.function _ said refl
     (walk 𝓤 H (𝓖 .A) (givenOf 𝓤 H 𝓜 𝓖) (tablesOf 𝓤 H 𝓜 (tables 𝓤 H 𝓜 𝓡 code.env))
-    (cited 𝓤 H _ 𝓜 𝓡 code.env span-def.name span-def.routine code.calls-slots·span (span-thm.met 𝓤 H 𝓜 𝓖 𝓡))
+    (cited 𝓤 H _ 𝓜 𝓡 code.env span-def.name span-def.routine code.calls-scans·span (span-thm.met 𝓤 H 𝓜 𝓖 𝓡))
     (cited 𝓤 H _ 𝓜 𝓡 code.env slot-def.name slot-def.routine code.calls-slots·fresh-slot (slot-thm.met 𝓤 H 𝓜 𝓖 𝓡))
     (cited 𝓤 H _ 𝓜 𝓡 code.env gate-def.name gate-def.routine code.calls-slots·gate (gate-thm.met 𝓤 H 𝓜 𝓖 𝓡)))
     (λ κs a. claim.clauses 𝓤 H (𝓖 .A) (𝓜 .mem) (𝓡 .run) κs a .ensures)

@@ -11,18 +11,17 @@ use denote.Slice.{sliceVal}
 use Rattle.rules.specs.Tables.{outside}
 use Rattle.rules.specs.declared.Record.{Record}
 use Rattle.rules.proofs.Record as T
-use Rattle.slots.specs.Gates.{spanOf}
-use Rattle.slots.specs.Scans.{foundOr, absentOrNext}
+use Rattle.scans.specs.Scans.{spanOf, foundOr, absentOrNext}
 use Rattle.tables.specs.Passes.{scanOf}
 use Rattle.tables.proofs.Asks.{holds-true, holds-false}
 use Rattle.tables.proofs.Passes.{span-few, goes-up, scan-more, scan-end, absent-goes}
 use Rattle.tables.proofs.Slots.{item}
-use Rattle.slots.proofs.span.Symbol as span-def
-use Rattle.slots.proofs.span.Met as span-thm
-use Rattle.slots.proofs.absent_or_next.Symbol as seek-def
-use Rattle.slots.proofs.absent_or_next.Met as seek-thm
-use Rattle.slots.proofs.found_or.Symbol as last-def
-use Rattle.slots.proofs.found_or.Met as last-thm
+use Rattle.scans.proofs.span.Symbol as span-def
+use Rattle.scans.proofs.span.Met as span-thm
+use Rattle.scans.proofs.absent_or_next.Symbol as seek-def
+use Rattle.scans.proofs.absent_or_next.Met as seek-thm
+use Rattle.scans.proofs.found_or.Symbol as last-def
+use Rattle.scans.proofs.found_or.Met as last-thm
 use Rattle.tables.proofs.lowest_absent.Key.{name as #lowest-absent}
 use Rattle.tables.proofs.lowest_absent.Statement as stated
 use Rattle.tables.proofs.lowest_absent.Code as code
@@ -98,6 +97,6 @@ lowest-absent-spec 𝓤 H 𝓜 𝓖 𝓡 =
     entered 𝓤 H _ (tables 𝓤 H 𝓜 𝓡 code.env .C) (tables 𝓤 H 𝓜 𝓡 code.env .Λ) #lowest-absent code.function (code.unfolded 𝓤 H 𝓜 𝓡)
     (looks item (number ∷ []) number 𝓤 H (𝓖 .A) said (givenOf 𝓤 H 𝓜 𝓖) (tablesOf 𝓤 H 𝓜 (tables 𝓤 H 𝓜 𝓡 code.env)) code.function _ refl
     (walk 𝓤 H (𝓖 .A) (givenOf 𝓤 H 𝓜 𝓖) (tablesOf 𝓤 H 𝓜 (tables 𝓤 H 𝓜 𝓡 code.env))
-    (cited 𝓤 H _ 𝓜 𝓡 code.env span-def.name span-def.routine code.calls-slots·span (span-thm.met 𝓤 H 𝓜 𝓖 𝓡))
-    (cited 𝓤 H _ 𝓜 𝓡 code.env seek-def.name seek-def.routine code.calls-slots·absent-or-next (seek-thm.met 𝓤 H 𝓜 𝓖 𝓡))
-    (cited 𝓤 H _ 𝓜 𝓡 code.env last-def.name last-def.routine code.calls-slots·found-or (last-thm.met 𝓤 H 𝓜 𝓖 𝓡))))
+    (cited 𝓤 H _ 𝓜 𝓡 code.env span-def.name span-def.routine code.calls-scans·span (span-thm.met 𝓤 H 𝓜 𝓖 𝓡))
+    (cited 𝓤 H _ 𝓜 𝓡 code.env seek-def.name seek-def.routine code.calls-scans·absent-or-next (seek-thm.met 𝓤 H 𝓜 𝓖 𝓡))
+    (cited 𝓤 H _ 𝓜 𝓡 code.env last-def.name last-def.routine code.calls-scans·found-or (last-thm.met 𝓤 H 𝓜 𝓖 𝓡))))

@@ -7,16 +7,16 @@ use Rattle.frames.proofs.Walk.{looks-as, now, factI, emp}
 use Rattle.rules.specs.Tables.{outside}
 use Rattle.rules.specs.declared.Record.{Record}
 use Rattle.slots.specs.Gates.{gateCode}
-use Rattle.slots.specs.Scans.{foundOr, weighOf, weighStart}
+use Rattle.scans.specs.Scans.{foundOr, weighOf, weighStart}
 use Rattle.tables.specs.Passes.{scanOf}
-use Rattle.slots.specs.declared.Scan.{Scan}
+use Rattle.scans.specs.declared.Scan.{Scan}
 use Rattle.tables.proofs.Tied.{gate-ok, spareCode, spare-tied}
 use Rattle.tables.proofs.Asks.{holds-true, holds-false}
 use Rattle.tables.proofs.Slots.{item, scan, gateOf}
 use Rattle.slots.proofs.gate.Symbol as gate-def
 use Rattle.slots.proofs.gate.Met as gate-thm
-use Rattle.slots.proofs.weigh_start.Symbol as start-def
-use Rattle.slots.proofs.weigh_start.Met as start-thm
+use Rattle.scans.proofs.weigh_start.Symbol as start-def
+use Rattle.scans.proofs.weigh_start.Met as start-thm
 use Rattle.tables.proofs.weigh_all.Symbol as pass-def
 use Rattle.tables.proofs.weigh_all.Met as pass-thm
 use Rattle.tables.proofs.spare as claim
@@ -65,7 +65,7 @@ spare-spec 𝓤 H 𝓜 𝓖 𝓡 =
     (looks-as item (number ∷ []) number 𝓤 H (𝓖 .A) (givenOf 𝓤 H 𝓜 𝓖) (tablesOf 𝓤 H 𝓜 (tables 𝓤 H 𝓜 𝓡 code.env)) code.function _ said refl
     (walk 𝓤 H (𝓖 .A) (givenOf 𝓤 H 𝓜 𝓖) (tablesOf 𝓤 H 𝓜 (tables 𝓤 H 𝓜 𝓡 code.env))
     (cited 𝓤 H _ 𝓜 𝓡 code.env gate-def.name gate-def.routine code.calls-slots·gate (gate-thm.met 𝓤 H 𝓜 𝓖 𝓡))
-    (cited 𝓤 H _ 𝓜 𝓡 code.env start-def.name start-def.routine code.calls-slots·weigh-start (start-thm.met 𝓤 H 𝓜 𝓖 𝓡))
+    (cited 𝓤 H _ 𝓜 𝓡 code.env start-def.name start-def.routine code.calls-scans·weigh-start (start-thm.met 𝓤 H 𝓜 𝓖 𝓡))
     (cited 𝓤 H _ 𝓜 𝓡 code.env pass-def.name pass-def.routine code.calls-tables·weigh-all (pass-thm.met 𝓤 H 𝓜 𝓖 𝓡)))
     (λ κs a. claim.clauses 𝓤 H (𝓖 .A) (𝓜 .mem) (𝓡 .run) κs a .ensures)
     (λ κs a r e h. factI 𝓤 _ (emp 𝓤) (h ∙ spare-tied (now (a .0)) (a .1 .0))))

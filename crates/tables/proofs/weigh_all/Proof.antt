@@ -15,23 +15,22 @@ use Rattle.rules.specs.Stored.{absent}
 use Rattle.rules.specs.Tables.{outside}
 use Rattle.rules.specs.declared.Record.{Record}
 use Rattle.rules.proofs.Record as T
-use Rattle.slots.specs.Gates.{spanOf}
-use Rattle.slots.specs.declared.Scan.{Scan}
-use Rattle.slots.specs.Scans.{foundOr, weighed, weighOf}
+use Rattle.scans.specs.declared.Scan.{Scan}
+use Rattle.scans.specs.Scans.{spanOf, foundOr, weighed, weighOf}
 use Rattle.tables.specs.Passes.{scanOf}
 use Rattle.tables.proofs.Asks.{holds-true, holds-false}
 use Rattle.tables.proofs.Passes.{span-few, goes-up, scan-more, scan-end, weigh-goes}
-use Rattle.slots.proofs.Scan as Z
-use Rattle.slots.proofs.Scan.Laws as Z′
+use Rattle.scans.proofs.Scan as Z
+use Rattle.scans.proofs.Scan.Laws as Z′
 use Rattle.tables.proofs.Slots.{item, scan}
-use Rattle.slots.proofs.span.Symbol as span-def
-use Rattle.slots.proofs.span.Met as span-thm
+use Rattle.scans.proofs.span.Symbol as span-def
+use Rattle.scans.proofs.span.Met as span-thm
 use Rattle.slots.proofs.is_absent.Symbol as absent-def
 use Rattle.slots.proofs.is_absent.Met as absent-thm
-use Rattle.slots.proofs.weigh.Symbol as weigh-def
-use Rattle.slots.proofs.weigh.Met as weigh-thm
-use Rattle.slots.proofs.found_or.Symbol as last-def
-use Rattle.slots.proofs.found_or.Met as last-thm
+use Rattle.scans.proofs.weigh.Symbol as weigh-def
+use Rattle.scans.proofs.weigh.Met as weigh-thm
+use Rattle.scans.proofs.found_or.Symbol as last-def
+use Rattle.scans.proofs.found_or.Met as last-thm
 use Rattle.tables.proofs.weigh_all.Key.{name as #weigh-all}
 use Rattle.tables.proofs.weigh_all.Statement as stated
 use Rattle.tables.proofs.weigh_all.Code as code
@@ -116,7 +115,7 @@ weigh-all-spec 𝓤 H 𝓜 𝓖 𝓡 =
     entered 𝓤 H _ (tables 𝓤 H 𝓜 𝓡 code.env .C) (tables 𝓤 H 𝓜 𝓡 code.env .Λ) #weigh-all code.function (code.unfolded 𝓤 H 𝓜 𝓡)
     (looks item (scan ∷ []) number 𝓤 H (𝓖 .A) said (givenOf 𝓤 H 𝓜 𝓖) (tablesOf 𝓤 H 𝓜 (tables 𝓤 H 𝓜 𝓡 code.env)) code.function _ refl
     (walk 𝓤 H (𝓖 .A) (givenOf 𝓤 H 𝓜 𝓖) (tablesOf 𝓤 H 𝓜 (tables 𝓤 H 𝓜 𝓡 code.env))
-    (cited 𝓤 H _ 𝓜 𝓡 code.env span-def.name span-def.routine code.calls-slots·span (span-thm.met 𝓤 H 𝓜 𝓖 𝓡))
+    (cited 𝓤 H _ 𝓜 𝓡 code.env span-def.name span-def.routine code.calls-scans·span (span-thm.met 𝓤 H 𝓜 𝓖 𝓡))
     (cited 𝓤 H _ 𝓜 𝓡 code.env absent-def.name absent-def.routine code.calls-slots·is-absent (absent-thm.met 𝓤 H 𝓜 𝓖 𝓡))
-    (cited 𝓤 H _ 𝓜 𝓡 code.env weigh-def.name weigh-def.routine code.calls-slots·weigh (weigh-thm.met 𝓤 H 𝓜 𝓖 𝓡))
-    (cited 𝓤 H _ 𝓜 𝓡 code.env last-def.name last-def.routine code.calls-slots·found-or (last-thm.met 𝓤 H 𝓜 𝓖 𝓡))))
+    (cited 𝓤 H _ 𝓜 𝓡 code.env weigh-def.name weigh-def.routine code.calls-scans·weigh (weigh-thm.met 𝓤 H 𝓜 𝓖 𝓡))
+    (cited 𝓤 H _ 𝓜 𝓡 code.env last-def.name last-def.routine code.calls-scans·found-or (last-thm.met 𝓤 H 𝓜 𝓖 𝓡))))

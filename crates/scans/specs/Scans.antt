@@ -14,9 +14,13 @@ use Rattle.rules.specs.declared.Compared.{Compared}
 use Rattle.rules.specs.declared.Compared.the-variants.{Is, Refused as NotCompared}
 use Rattle.rules.specs.declared.Refusal.the-variants.{Unfit}
 use Rattle.walks.specs.Walks.{front, compareWalk}
-use Rattle.slots.specs.declared.Scan.{Scan}
 use Rattle.slots.specs.Gates.{codeOf}
 use Rattle.slots.specs.Rules.{answerCode, slotTests}
+use Rattle.scans.specs.declared.Scan.{Scan}
+
+-- how many slots there are to go over: all, or none where the table is too large
+unfoldable pub spanOf : ℕ → ℕ
+spanOf n = cond (ltb records n) 0 n
 
 abbrev pub found : ℕ
 found = 1000

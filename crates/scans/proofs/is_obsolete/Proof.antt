@@ -1,8 +1,8 @@
--- `slots::is_obsolete` meets its contract: one way for each verdict. Assumes nothing.
+-- `scans::is_obsolete` meets its contract: one way for each verdict. Assumes nothing.
 use Rattle.laws.proofs.Library.{sym, ap, needs}
-use Rattle.slots.specs.Scans.{obsoleteNumber}
-use Rattle.slots.proofs.is_obsolete.Statement.{statement}
-use Rattle.slots.proofs.is_obsolete.Tie as tie
+use Rattle.scans.specs.Scans.{obsoleteNumber}
+use Rattle.scans.proofs.is_obsolete.Statement.{statement}
+use Rattle.scans.proofs.is_obsolete.Tie as tie
 
 returns : tie.Need-returns
 returns c = sym (ap obsoleteNumber (c .enum-told .given .1))

@@ -11,9 +11,9 @@ use Rattle.rules.specs.declared.Refusal.{Refusal}
 use Rattle.rules.specs.declared.Refusal.the-variants.{Malformed, Unlawful, NoSlot, OneSlot, Full, Long, Many, Overlap, Unseen, Short, Unread, Unfit, Ended}
 use Rattle.rules.specs.declared.Verdict.the-variants.{Equal, Obsolete, Newer, Conflict}
 use Rattle.walks.specs.Walks.{front, compareWalk}
 use Rattle.slots.specs.Gates.{codeOf}
 use Rattle.slots.specs.Rules.{answerCode, slotTests}
-use Rattle.slots.specs.Scans.{spareCode, meetCode}
+use Rattle.scans.specs.Scans.{spareCode, meetCode}
 
 code-few : (r : Refusal) → codeOf r ≤ 2000
 code-few Malformed = lit≤ tt

@@ -1,9 +1,9 @@
--- `slots::weigh_start` meets its contract. Assumes nothing.
+-- `scans::weigh_start` meets its contract. Assumes nothing.
 use Rattle.laws.proofs.Library.{sym, ap, subst, _∙_, ℕ, _≤_, needs}
-use Rattle.slots.specs.Scans.{weighStart, onwardTo}
-use Rattle.slots.proofs.Few.{slot-few}
-use Rattle.slots.proofs.weigh_start.Statement.{statement}
-use Rattle.slots.proofs.weigh_start.Tie as tie
+use Rattle.scans.specs.Scans.{weighStart, onwardTo}
+use Rattle.scans.proofs.Few.{slot-few}
+use Rattle.scans.proofs.weigh_start.Statement.{statement}
+use Rattle.scans.proofs.weigh_start.Tie as tie
 
 onward-requires : tie.Need-onward-requires
 onward-requires c κs = subst (λ (n : ℕ). n ≤ 2000) (sym (c .slot-code .ensures)) (slot-few _)

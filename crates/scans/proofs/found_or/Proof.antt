@@ -1,8 +1,8 @@
--- `slots::found_or` meets its contract. Assumes nothing.
+-- `scans::found_or` meets its contract. Assumes nothing.
 use Rattle.laws.proofs.Library.{arith, lt-ltb, le-ltb}
-use Rattle.slots.specs.Scans.{foundOr}
-use Rattle.slots.proofs.found_or.Statement.{statement}
-use Rattle.slots.proofs.found_or.Tie as tie
+use Rattle.scans.specs.Scans.{foundOr}
+use Rattle.scans.proofs.found_or.Statement.{statement}
+use Rattle.scans.proofs.found_or.Tie as tie
 
 returns : tie.Need-returns
 unfolding foundOr

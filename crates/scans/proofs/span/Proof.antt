@@ -1,8 +1,8 @@
--- `slots::span` meets its contract. Assumes nothing.
+-- `scans::span` meets its contract. Assumes nothing.
 use Rattle.laws.proofs.Library.{arith, lt-ltb, le-ltb}
-use Rattle.slots.specs.Gates.{spanOf}
-use Rattle.slots.proofs.span.Statement.{statement}
-use Rattle.slots.proofs.span.Tie as tie
+use Rattle.scans.specs.Scans.{spanOf}
+use Rattle.scans.proofs.span.Statement.{statement}
+use Rattle.scans.proofs.span.Tie as tie
 
 returns : tie.Need-returns
 unfolding spanOf

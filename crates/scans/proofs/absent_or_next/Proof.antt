@@ -1,8 +1,8 @@
--- `slots::absent_or_next` meets its contract. Assumes nothing.
+-- `scans::absent_or_next` meets its contract. Assumes nothing.
 use Rattle.laws.proofs.Library.{sym, _∙_, arith, lt-ltb, le-ltb, needs}
-use Rattle.slots.specs.Scans.{absentOrNext}
-use Rattle.slots.proofs.absent_or_next.Statement.{statement}
-use Rattle.slots.proofs.absent_or_next.Tie as tie
+use Rattle.scans.specs.Scans.{absentOrNext}
+use Rattle.scans.proofs.absent_or_next.Statement.{statement}
+use Rattle.scans.proofs.absent_or_next.Tie as tie
 
 returns : tie.Need-returns
 unfolding absentOrNext

@@ -1,9 +1,9 @@
--- `slots::meet_code` meets its contract: what the walk over the words that count tells beside a lawful record, and else 12. Assumes nothing.
+-- `scans::meet_code` meets its contract: what the walk over the words that count tells beside a lawful record, and else 12. Assumes nothing.
 use Rattle.laws.proofs.Library.{sym, ap, _∙_, needs}
 use Rattle.walks.specs.Walks.{compareWalk}
-use Rattle.slots.specs.Scans.{meetCode, spareCode}
-use Rattle.slots.proofs.meet_code.Statement.{statement}
-use Rattle.slots.proofs.meet_code.Tie as tie
+use Rattle.scans.specs.Scans.{meetCode, spareCode}
+use Rattle.scans.proofs.meet_code.Statement.{statement}
+use Rattle.scans.proofs.meet_code.Tie as tie
 
 returns : tie.Need-returns
 unfolding meetCode

@@ -1,9 +1,9 @@
--- `slots::weigh` meets its contract. Assumes nothing.
+-- `scans::weigh` meets its contract. Assumes nothing.
 use Rattle.laws.proofs.Library.{sym, ap, subst, _∙_, ℕ, _+_, _≤_, arith, lt-ltb, le-ltb, eq-eqb, ne-eqb, needs}
-use Rattle.slots.specs.Scans.{weighed, onwardTo}
-use Rattle.slots.proofs.Few.{meet-few}
-use Rattle.slots.proofs.weigh.Statement.{statement}
-use Rattle.slots.proofs.weigh.Tie as tie
+use Rattle.scans.specs.Scans.{weighed, onwardTo}
+use Rattle.scans.proofs.Few.{meet-few}
+use Rattle.scans.proofs.weigh.Statement.{statement}
+use Rattle.scans.proofs.weigh.Tie as tie
 
 returns : tie.Need-returns
 unfolding weighed

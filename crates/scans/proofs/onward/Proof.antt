@@ -1,8 +1,8 @@
--- `slots::onward` meets its contract. Assumes nothing.
+-- `scans::onward` meets its contract. Assumes nothing.
 use Rattle.laws.proofs.Library.{arith, eq-eqb, ne-eqb, needs}
-use Rattle.slots.specs.Scans.{onwardTo}
-use Rattle.slots.proofs.onward.Statement.{statement}
-use Rattle.slots.proofs.onward.Tie as tie
+use Rattle.scans.specs.Scans.{onwardTo}
+use Rattle.scans.proofs.onward.Statement.{statement}
+use Rattle.scans.proofs.onward.Tie as tie
 
 returns : tie.Need-returns
 unfolding onwardTo
