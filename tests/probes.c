@@ -177,8 +177,8 @@ static void keeping(void) {
     any_stamp(&y);
     kept want = second_keep(x.b, x.len, y.b, y.len);
     writes = 0;
-    probe_keep(x.b, x.len, y.b, y.len);
-    if (writes != 1 || given.at != want.at || given.len != want.len) differ("keep", given.len, want.len);
+    uint64_t got = probe_keep(x.b, x.len, y.b, y.len);
+    if (writes != 1 || given.at != want.at || given.len != want.len || got != want.len) differ("keep", got, want.len);
     tally(&keep_met, want.len == 0 ? 0 : want.at == x.b ? 1 : 2);
 }
 

@@ -4,14 +4,22 @@
 mod words;
 
 ghost use mathlib.Core.Path.{_≡_};
+ghost use mathlib.Core.List.{[]};
+ghost use lib.ListN.{length};
 ghost use Rattle.rules.specs.Limits.{narrow};
-ghost use Rattle.rules.specs.Packed.{comparedNumber};
+ghost use Rattle.rules.specs.Refusals.{first};
+ghost use Rattle.rules.specs.Stored.{isStored};
+ghost use Rattle.rules.specs.Values.{updated, forked, joined, compared, meeting};
+ghost use Rattle.rules.specs.Packed.{readStamp, writtenStamp, packedCompare, sideOf, writtenNumber, comparedNumber};
+ghost use Rattle.rules.specs.Bundles.{readEntry};
 ghost use Rattle.rules.specs.Tables.{makeFresh, updateAt, forkAt, joinAt, compareAt, spareAt, slotNumber, sparedNumber};
+ghost use Rattle.probes.specs.Handed.{recordIn, recordWords, doneNumber, keptBytes};
 use answers::compared_code;
 use answers::refusal_code;
 use answers::written_code;
 use libc::STDOUT_FILENO;
 use rules::Answer;
+use rules::Given;
 use rules::Record;
 use words::put_record;
 use words::record_in;
@@ -66,88 +74,110 @@ pub extern "C" fn probe_spare(t: &[Record], a: usize) -> u64
 
 // `packed::read`.
 #[no_mangle]
-pub extern "C" fn probe_read(b: &[u8], out: &mut [u64; 34]) -> u64 {
-    let g = packed::read(b);
-    let stamp = g.stamp;
-    let answer = g.answer;
-    put_record(stamp, out);
-    answer_code(answer)
+pub extern "C" fn probe_read(b: &[u8], out: &mut [u64; 34]) -> u64
+    ensures { λ n. ⌜ (n ≡ doneNumber (readStamp narrow (now (b .entry)) .answer))
+        × (now (out .exit) ≡ recordWords (readStamp narrow (now (b .entry)) .stamp)) ⌝ }
+{
+    give(packed::read(b), out)
 }
 
 // `packed::write`.
 #[no_mangle]
-pub extern "C" fn probe_write(r: &[u64; 34], out: &mut [u8]) -> u64 {
+pub extern "C" fn probe_write(r: &[u64; 34], out: &mut [u8]) -> u64
+    ensures { λ n. ⌜ (n ≡ writtenNumber (writtenStamp narrow (recordIn (now (r .entry))) (now (out .entry)) .answer))
+        × (now (out .exit) ≡ writtenStamp narrow (recordIn (now (r .entry))) (now (out .entry)) .out) ⌝ }
+{
     written_code(packed::write(record_in(r), out))
 }
 
 // `bundles::entry`.
 #[no_mangle]
-pub extern "C" fn probe_entry(b: &[u8], k: usize, out: &mut [u64; 34]) -> u64 {
-    let g = bundles::entry(b, k);
-    let stamp = g.stamp;
-    let answer = g.answer;
-    put_record(stamp, out);
-    answer_code(answer)
+pub extern "C" fn probe_entry(b: &[u8], k: usize, out: &mut [u64; 34]) -> u64
+    ensures { λ n. ⌜ (n ≡ doneNumber (readEntry narrow k (now (b .entry)) .answer))
+        × (now (out .exit) ≡ recordWords (readEntry narrow k (now (b .entry)) .stamp)) ⌝ }
+{
+    give(bundles::entry(b, k), out)
 }
 
-// `calls::keep`: what it gives back goes to C's `write`, which sees where it stands and how long it is.
+// `calls::keep`: how many bytes it gives back. They go to C's `write`, which sees where they stand.
 #[no_mangle]
-pub extern "C" fn probe_keep<'a>(first: &'a [u8], second: &'a [u8]) {
-    libc::write(STDOUT_FILENO, calls::keep(first, second));
+pub extern "C" fn probe_keep<'a>(s: &'a [u8], t: &'a [u8]) -> u64
+    ensures { λ n. ⌜ n ≡ length (keptBytes (sideOf (packedCompare narrow (now (s .entry)) (now (t .entry)))) (now (s .entry)) (now (t .entry))) ⌝ }
+{
+    let given = calls::keep(s, t);
+    libc::write(STDOUT_FILENO, given);
+    given.len() as u64
 }
 
 // `stamps::is_lawful`.
 #[no_mangle]
-pub extern "C" fn probe_is_lawful(r: &[u64; 34]) -> bool {
+pub extern "C" fn probe_is_lawful(r: &[u64; 34]) -> bool
+    ensures { λ b. ⌜ b ≡ isStored narrow (recordIn (now (r .entry))) ⌝ }
+{
     stamps::is_lawful(record_in(r))
 }
 
 // `stamps::update`.
 #[no_mangle]
-pub extern "C" fn probe_updated(r: &[u64; 34], out: &mut [u64; 34]) -> u64 {
-    let g = stamps::update(record_in(r));
-    let stamp = g.stamp;
-    let answer = g.answer;
-    put_record(stamp, out);
-    answer_code(answer)
+pub extern "C" fn probe_updated(r: &[u64; 34], out: &mut [u64; 34]) -> u64
+    ensures { λ n. ⌜ (n ≡ doneNumber (updated narrow (recordIn (now (r .entry))) .answer))
+        × (now (out .exit) ≡ recordWords (updated narrow (recordIn (now (r .entry))) .stamp)) ⌝ }
+{
+    give(stamps::update(record_in(r)), out)
 }
 
 // `stamps::fork`.
 #[no_mangle]
-pub extern "C" fn probe_forked(r: &[u64; 34], zero: &mut [u64; 34], one: &mut [u64; 34]) -> u64 {
+pub extern "C" fn probe_forked(r: &[u64; 34], zero: &mut [u64; 34], one: &mut [u64; 34]) -> u64
+    ensures { λ n. ⌜ (n ≡ doneNumber (forked narrow (recordIn (now (r .entry))) .answer))
+        × (now (zero .exit) ≡ recordWords (forked narrow (recordIn (now (r .entry))) .zero))
+        × (now (one .exit) ≡ recordWords (forked narrow (recordIn (now (r .entry))) .one)) ⌝ }
+{
     let f = stamps::fork(record_in(r));
-    let first = f.zero;
-    let second = f.one;
     let answer = f.answer;
-    put_record(first, zero);
-    put_record(second, one);
-    answer_code(answer)
+    put_record(f.zero, zero);
+    put_record(f.one, one);
+    done_code(answer)
 }
 
 // `joins::join`.
 #[no_mangle]
-pub extern "C" fn probe_joined(r: &[u64; 34], s: &[u64; 34], out: &mut [u64; 34]) -> u64 {
-    let g = joins::join(record_in(r), record_in(s));
-    let stamp = g.stamp;
-    let answer = g.answer;
-    put_record(stamp, out);
-    answer_code(answer)
+pub extern "C" fn probe_joined(r: &[u64; 34], s: &[u64; 34], out: &mut [u64; 34]) -> u64
+    ensures { λ n. ⌜ (n ≡ doneNumber (joined narrow (recordIn (now (r .entry))) (recordIn (now (s .entry))) .answer))
+        × (now (out .exit) ≡ recordWords (joined narrow (recordIn (now (r .entry))) (recordIn (now (s .entry))) .stamp)) ⌝ }
+{
+    give(joins::join(record_in(r), record_in(s)), out)
 }
 
 // `stamps::meet`.
 #[no_mangle]
-pub extern "C" fn probe_met(r: &[u64; 34], s: &[u64; 34]) -> u64 {
-    answer_code(stamps::meet(record_in(r), record_in(s)))
+pub extern "C" fn probe_met(r: &[u64; 34], s: &[u64; 34]) -> u64
+    ensures { λ n. ⌜ n ≡ doneNumber (first (meeting narrow (recordIn (now (r .entry))) (recordIn (now (s .entry))) [])) ⌝ }
+{
+    done_code(stamps::meet(record_in(r), record_in(s)))
 }
 
 // `stamps::compare`.
 #[no_mangle]
-pub extern "C" fn probe_compared(r: &[u64; 34], s: &[u64; 34]) -> u64 {
+pub extern "C" fn probe_compared(r: &[u64; 34], s: &[u64; 34]) -> u64
+    ensures { λ n. ⌜ n ≡ comparedNumber (compared narrow (recordIn (now (r .entry))) (recordIn (now (s .entry)))) ⌝ }
+{
     compared_code(stamps::compare(record_in(r), record_in(s)))
 }
 
+// A stamp's words into out, and its answer's number.
+fn give(g: Given, out: &mut [u64; 34]) -> u64
+    ensures { λ n. ⌜ (n ≡ doneNumber (g .answer)) × (now (out .exit) ≡ recordWords (g .stamp)) ⌝ }
+{
+    let answer = g.answer;
+    put_record(g.stamp, out);
+    done_code(answer)
+}
+
 // 0, or the refusal's number.
-fn answer_code(a: Answer) -> u64 {
+fn done_code(a: Answer) -> u64
+    ensures { λ n. ⌜ n ≡ doneNumber a ⌝ }
+{
     match a {
         Answer::Done => 0,
         Answer::Refused(r) => refusal_code(r),

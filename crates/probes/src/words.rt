@@ -1,45 +1,49 @@
 // A record as 34 words: of the update name and of the id a count and 16 words.
-ghost use Prim.Native.Nat.{_≤_};
+ghost use mathlib.Core.Path.{_≡_};
+ghost use Prim.Native.Nat.{_+_, _≤_};
+ghost use lib.ListN.{length};
+ghost use lib.Seq.{sets, slice};
+ghost use Rattle.probes.specs.Handed.{recordIn, recordWords};
 use rules::Record;
 use rules::Words;
 
 // The record that the words say.
-pub(crate) fn record_in(r: &[u64; 34]) -> Record {
-    Record {
-        update: name_in(r, 0),
-        id: name_in(r, 17),
-    }
+pub(crate) fn record_in(words: &[u64; 34]) -> Record
+    ensures { λ r. ⌜ r ≡ recordIn (now (words .entry)) ⌝ }
+{
+    let mut u = [0; 16];
+    let mut i = [0; 16];
+    copy(words, 1, &mut u, 0);
+    copy(words, 18, &mut i, 0);
+    let update = Words {
+        count: words[0] as usize,
+        words: u,
+    };
+    let id = Words {
+        count: words[17] as usize,
+        words: i,
+    };
+    Record { update, id }
 }
 
 // The words of a record.
-pub(crate) fn put_record(r: Record, out: &mut [u64; 34]) {
-    put_name(r.update, 0, out);
-    put_name(r.id, 17, out);
+pub(crate) fn put_record(r: Record, out: &mut [u64; 34])
+    ensures { λ _. ⌜ now (out .exit) ≡ recordWords r ⌝ }
+{
+    out[0] = r.update.count as u64;
+    copy(&r.update.words, 0, out, 1);
+    out[17] = r.id.count as u64;
+    copy(&r.id.words, 0, out, 18);
 }
 
-// The name whose count stands at `at`.
-fn name_in(r: &[u64; 34], at: usize) -> Words
-    requires { ⌜ at ≤ 17 ⌝ }
+// The 16 words from index i on, into the places from j on.
+fn copy(from: &[u64], i: usize, to: &mut [u64], j: usize)
+    requires { ⌜ (i + 16 ≤ length (now from)) × (j + 16 ≤ length (now to)) ⌝ }
+    ensures { λ _. ⌜ now (to .exit) ≡ sets (now (to .entry)) j (slice i (i + 16) (now (from .entry))) ⌝ }
 {
-    let mut words = [0; 16];
     let mut k = 0;
     while k < 16 {
-        words[k] = r[at + 1 + k];
+        to[j + k] = from[i + k];
         k += 1;
     }
-    let count = r[at] as usize;
-    Words { count, words }
-}
-
-// A name, its count at `at`.
-fn put_name(n: Words, at: usize, out: &mut [u64; 34])
-    requires { ⌜ at ≤ 17 ⌝ }
-{
-    let words = n.words;
-    let mut k = 0;
-    while k < 16 {
-        out[at + 1 + k] = words[k];
-        k += 1;
-    }
-    out[at] = n.count as u64;
 }
