@@ -20,6 +20,9 @@ returns c =
     ∙ ap (oneCommand (g .letter)) (c .before .slot .ensures)
     ∙ one-rest (g .letter) (g .rest .now) (k .first-space .result) (k .first-space .ensures) (i .if1 .taken)
 
+sub-slot : tie.Need-sub-slot
+sub-slot c = let h = inside (c .before .before) in omega arith
+
 returns-2 : tie.Need-returns-2
 returns-2 c =
     let d = c .before in
@@ -33,5 +36,5 @@ returns-2 c =
 
 pub slots-spec : {M : Type 1} → statement M
 slots-spec = tie.close (tie.spec (λ c κs. search needs) (λ c κs. search needs) (λ c κs. search needs) returns (λ c. let h = inside c in search needs)
-    (λ c. let h = inside (c .before) in simp length-take (omega arith)) (λ c κs. search needs) (λ c. let h = inside (c .before .before) in omega arith)
+    (λ c. let h = inside (c .before) in simp length-take (omega arith)) (λ c κs. search needs) sub-slot
     (λ c. let h = inside (c .before .before) in omega arith) (λ c. search needs) (λ c κs. search needs) (λ c κs. search needs) returns-2)
