@@ -44,11 +44,9 @@ no-letter c d l h = rw (ne-eqb d 32 h) (by (eqb c 32) (splitAt 32 l))
 
 pub read-one : (c : ℕ) (l : Text) → length l ≤ firstAt 32 l → readLine (c ∷ 32 ∷ l) ≡ oneSlot c l
 unfolding readLine splitAt
-read-one c l h = rw (split-none 32 l h) (by (eqb c 32) refl)
-  where
-    by : (b : Bool) → eqb c 32 ≡ b → byParts (cond b ([] ∷ ([] ∷ (l ∷ []))) ((c ∷ []) ∷ (l ∷ []))) ≡ oneSlot c l
-    by true e = rw (eqb-true c 32 e)
-    by false e = refl
+read-one c l h =
+    rw (split-none 32 l h)
+    (either (λ (ps : List Text). byParts ps ≡ oneSlot c l) (eqb c 32) (λ e. rw (eqb-true c 32 e)) (λ e. refl))
 
 pub read-two : (c : ℕ) (l : Text) → firstAt 32 l < length l
     → readLine (c ∷ 32 ∷ l) ≡ twoSlots c (take (firstAt 32 l) l) (drop (suc (firstAt 32 l)) l)
@@ -146,11 +144,7 @@ line-is (x ∷ (y ∷ l)) h e = rw e (ap (λ (m : Text). x ∷ 32 ∷ m) (take-a
 pub short-line : (l : Text) → length l < 2 → readLine l ≡ unreadable
 unfolding readLine splitAt
 short-line [] h = refl
-short-line (x ∷ []) h = by (eqb x 32)
-  where
-    by : (b : Bool) → byParts (cond b ([] ∷ ([] ∷ [])) ((x ∷ []) ∷ [])) ≡ unreadable
-    by true = refl
-    by false = refl
+short-line (x ∷ []) h = either (λ (ps : List Text). byParts ps ≡ unreadable) (eqb x 32) (λ e. refl) (λ e. refl)
 short-line (x ∷ (y ∷ l)) h = absurd (omega arith)
 
 pub unspaced-line : (l : Text) → 2 ≤ length l → (getD l 1 0 ≡ 32 → ⊥) → readLine l ≡ unreadable

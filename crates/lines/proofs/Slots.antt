@@ -37,24 +37,21 @@ slot-other (x ∷ (y ∷ (z ∷ l))) h k = refl
 pub slot-short : (l : Text) → 3 ≤ length l → slotOf l ≡ none
 slot-short l h = slot-other l (λ e. omega arith) (λ e. omega arith)
 
+given-below : (b : Bool) (n a : ℕ) → (b ≡ true → n < 100) → cond b (some n) none ≡ some a → a < 100
+given-below true n a h e = let k : n ≡ a = cc in omega (arith, h refl)
+given-below false n a h e = absurd (Option·none-ne-some a e)
+
 -- every slot is below 100, so 100 says that there is none
 pub slot-below : (l : Text) (a : ℕ) → slotOf l ≡ some a → a < 100
 unfolding slotOf
 slot-below [] a e = absurd (Option·none-ne-some a e)
-slot-below (x ∷ []) a e = by (isDigit x) refl e
+slot-below (x ∷ []) a e = given-below (isDigit x) (x - 48) a (λ f. omega (arith, digit-le x f)) e
+slot-below (x ∷ (y ∷ [])) a e = given-below (isDigit x && isDigit y && not (eqb x 48)) ((x - 48) * 10 + (y - 48)) a two e
   where
-    by : (b : Bool) → isDigit x ≡ b → cond b (some (x - 48)) none ≡ some a → a < 100
-    by true f e = let k : x - 48 ≡ a = cc in omega (arith, digit-le x f)
-    by false f e = absurd (Option·none-ne-some a e)
-slot-below (x ∷ (y ∷ [])) a e = by (isDigit x && isDigit y && not (eqb x 48)) refl e
-  where
-    by : (b : Bool) → (isDigit x && isDigit y && not (eqb x 48)) ≡ b → cond b (some ((x - 48) * 10 + (y - 48))) none ≡ some a → a < 100
-    by true f e =
-        let k : (x - 48) * 10 + (y - 48) ≡ a = cc in
-        let g = and-left (isDigit x) (isDigit y) (and-left (isDigit x && isDigit y) (not (eqb x 48)) f) in
-        let h = and-right (isDigit x) (isDigit y) (and-left (isDigit x && isDigit y) (not (eqb x 48)) f) in
-        omega (arith, digit-le x g, digit-le y h)
-    by false f e = absurd (Option·none-ne-some a e)
+    two : (isDigit x && isDigit y && not (eqb x 48)) ≡ true → (x - 48) * 10 + (y - 48) < 100
+    two f =
+        let g = and-left (isDigit x && isDigit y) (not (eqb x 48)) f in
+        omega (arith, digit-le x (and-left (isDigit x) (isDigit y) g), digit-le y (and-right (isDigit x) (isDigit y) g))
 slot-below (x ∷ (y ∷ (z ∷ l))) a e = absurd (Option·none-ne-some a e)
 
 -- by the number of bytes: one digit; two, of which the first is 0 or not
