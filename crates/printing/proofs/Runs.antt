@@ -3,7 +3,6 @@
 use Rattle.laws.proofs.Library.{_≡_, refl, sym, ap₂, _∙_, Bool, true, false, _||_, List, [], _∷_, _++_, append-assoc, ℕ, suc, _≤_, _<_, arith, leb-false}
 use Rattle.laws.proofs.Library.{eqb-false, leb, length, set, replicate, length-set, length-replicate}
 use Rattle.rules.specs.Limits.{Limits, records}
-use Rattle.rules.specs.Stamps
 use Rattle.rules.specs.Stamps.{start}
 use Rattle.rules.specs.Stored.{stored, blank, absent}
 use Rattle.rules.specs.Refusals.{first}
