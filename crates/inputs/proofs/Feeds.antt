@@ -8,11 +8,11 @@ use Rattle.rules.specs.Traces.{Text}
 use Rattle.laws.proofs.Tests.{no, and-left, and-right}
 use Rattle.lines.specs.declared.Command.{Command}
 use Rattle.lines.specs.declared.Gathered.{Gathered}
-use Rattle.lines.specs.declared.Printed.{Printed}
 use Rattle.lines.specs.Commands.{ended, left, numbers, gathered, gatheredIn}
-use Rattle.lines.specs.Answers.{answersText, printed, printedIn}
 use Rattle.lines.specs.Runs.{answered, tableAfter}
 use Rattle.lines.proofs.Turns.{ended-few, numbers-length, held-back}
+use Rattle.printing.specs.declared.Printed.{Printed}
+use Rattle.printing.specs.Answers.{answersText, printed, printedIn}
 use Rattle.traces.specs.Serves.{ranTable, ranIn}
 use Rattle.traces.proofs.Ran.{answered-length}
 use Rattle.inputs.specs.declared.Trace.{Trace}

@@ -6,9 +6,10 @@ use Rattle.rules.specs.Tables.{freshTable}
 use Rattle.rules.specs.Traces.{Text, traced}
 use Rattle.lines.specs.declared.Command.{Command}
 use Rattle.lines.specs.Commands.{parsed, begun, ended, left, lastLine, allGathered, whole}
-use Rattle.lines.specs.Answers.{answersText}
 use Rattle.lines.specs.Runs.{answered, tableAfter}
-use Rattle.lines.proofs.Runs.{prints-traced, answered-append, answers-append}
+use Rattle.lines.proofs.Runs.{answered-append}
+use Rattle.printing.specs.Answers.{answersText}
+use Rattle.printing.proofs.Runs.{prints-traced, answers-append}
 use Rattle.inputs.specs.declared.Trace.{Trace}
 use Rattle.inputs.specs.Pieces.{started, pieceText, after, endText, textOf}
 

@@ -10,8 +10,8 @@ use Rattle.rules.specs.Tables.{freshTable}
 use Rattle.rules.specs.Traces.{Text}
 use Rattle.lines.specs.declared.Command.{Command}
 use Rattle.lines.specs.Commands.{begun, ended, left, numbers}
-use Rattle.lines.specs.Answers.{answersText}
 use Rattle.lines.specs.Runs.{answered, tableAfter}
+use Rattle.printing.specs.Answers.{answersText}
 use Rattle.inputs.specs.declared.Trace.{Trace}
 use Rattle.inputs.specs.declared.Fed.{Fed}
 

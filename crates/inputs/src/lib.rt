@@ -55,7 +55,7 @@ pub fn feed(trace: Trace, piece: &[u8], commands: &mut [u64], out: &mut [u8]) ->
     let g = lines::gather(held, piece, commands);
     let end = 3 * g.count;
     let after = traces::run(&mut commands[..end], before);
-    let p = lines::print(&commands[..end], out);
+    let p = printing::print(&commands[..end], out);
     let line = g.line;
     let len = p.len;
     let next = Trace {

@@ -12,33 +12,29 @@ use Rattle.lines.proofs.Reading.{read-eight}
 
 -- ---- one piece after another
 
-pub left-append : (p q : Text) (l : Unfinished) → left l (p ++ q) ≡ left (left l p) q
-unfolding left
-left-append [] q l = refl
-left-append (x ∷ p) q l = by (eqb x 10) (λ m. left-append p q m)
-  where
-    by : (b : Bool) → ((m : Unfinished) → left m (p ++ q) ≡ left (left m p) q)
-        → cond b (left begun (p ++ q)) (left (pushed l x) (p ++ q)) ≡ left (cond b (left begun p) (left (pushed l x) p)) q
-    by true ih = ih begun
-    by false ih = ih (pushed l x)
+-- the line that both leave, and the commands that end in both
+abbrev Appends : Text → Text → Unfinished → Type 0
+Appends p q l = (left l (p ++ q) ≡ left (left l p) q) × (ended l (p ++ q) ≡ ended l p ++ ended (left l p) q)
 
-pub ended-append : (p q : Text) (l : Unfinished) → ended l (p ++ q) ≡ ended l p ++ ended (left l p) q
+appends : (p q : Text) (l : Unfinished) → Appends p q l
 unfolding left ended
-ended-append [] q l = refl
-ended-append (x ∷ p) q l = by (eqb x 10) (λ m. ended-append p q m)
+appends [] q l = (refl, refl)
+appends (x ∷ p) q l = by (eqb x 10) (appends p q begun) (appends p q (pushed l x))
   where
-    by : (b : Bool) → ((m : Unfinished) → ended m (p ++ q) ≡ ended m p ++ ended (left m p) q)
-        → cond b (parsed l ∷ ended begun (p ++ q)) (ended (pushed l x) (p ++ q))
-        ≡ cond b (parsed l ∷ ended begun p) (ended (pushed l x) p) ++ ended (cond b (left begun p) (left (pushed l x) p)) q
-    by true ih = ap (λ (cs : List Command). parsed l ∷ cs) (ih begun)
-    by false ih = ih (pushed l x)
+    by : (b : Bool) → Appends p q begun → Appends p q (pushed l x)
+        → (cond b (left begun (p ++ q)) (left (pushed l x) (p ++ q)) ≡ left (cond b (left begun p) (left (pushed l x) p)) q)
+        × (cond b (parsed l ∷ ended begun (p ++ q)) (ended (pushed l x) (p ++ q))
+        ≡ cond b (parsed l ∷ ended begun p) (ended (pushed l x) p) ++ ended (cond b (left begun p) (left (pushed l x) p)) q)
+    by true f g = (f .0, ap (λ (cs : List Command). parsed l ∷ cs) (f .1))
+    by false f g = g
 
 -- pieces are one piece, and then the last line
 pub all-whole : (ps : List Text) (l : Unfinished) → allGathered l ps ≡ ended l (whole ps) ++ lastLine (left l (whole ps))
 unfolding allGathered whole left ended
 all-whole [] l = refl
 all-whole (p ∷ ps) l =
-    rw (ended-append p (whole ps) l, left-append p (whole ps) l, append-assoc)
+    let a = appends p (whole ps) l in
+    rw (a .1, a .0, append-assoc)
     (ap (λ (cs : List Command). ended l p ++ cs) (all-whole ps (left l p)))
 
 -- ---- what the unfinished line keeps

@@ -1,38 +1,30 @@
 -- `readLine` of a letter, a space and a rest is told by the first space of the rest; and no line of eight bytes or more reads, as a slot
 -- has at most two bytes. Assumes nothing.
-use Rattle.laws.proofs.Library.{_≡_, refl, sym, ap, _∙_, Bool, true, false, cond, _&&_, _||_, List, [], _∷_, Option, none, some, ℕ, suc, _+_, _-_, _≤_, _<_}
-use Rattle.laws.proofs.Library.{add-one, arith, ltb-true, ltb-false, leb-true, leb-false, eqb-true, lt-ltb, ne-eqb, eqb, leb, ltb, length, getD, take, drop}
-use Rattle.laws.proofs.Library.{length-take, length-drop, take-all}
+use Rattle.laws.proofs.Library.{_≡_, refl, sym, ap, _∙_, Bool, true, false, cond, _&&_, _||_, and-false, List, [], _∷_, Option, none, some, ℕ, suc, _+_, _-_}
+use Rattle.laws.proofs.Library.{_≤_, _<_, add-one, arith, ltb-true, ltb-false, leb-true, leb-false, eqb-true, lt-ltb, ne-eqb, eqb, leb, ltb, length, getD, take}
+use Rattle.laws.proofs.Library.{drop, length-take, length-drop, take-all}
 use Rattle.rules.specs.Traces.{Text, Line, unreadable, update, fork, join, compare, spare}
 use Rattle.rules.specs.Traces.{splitAt, ontoFirst, readLine, byParts, slotOf, oneSlot, twoSlots, withOne, withTwo}
 use Rattle.lines.specs.Commands.{commandOf, unread}
 use Rattle.lines.specs.Inner.{orNone, oneCommand, twoCommand, firstAt}
-use Rattle.lines.proofs.Splits.{split-none, split-some, parts, spread, spread-split}
-use Rattle.lines.proofs.Slots.{and-false, slot-space, slot-short, slot-below}
+use Rattle.lines.proofs.Splits.{either, split-none, split-some, parts, spread, spread-split}
+use Rattle.lines.proofs.Slots.{slot-space, slot-short, slot-below}
 
 -- ---- a letter and the rest of the line
 
+unread-or : (b : Bool) {m : Line} → m ≡ unreadable → cond b unreadable m ≡ unreadable
+unread-or b h = either (λ (n : Line). n ≡ unreadable) b (λ e. refl) (λ e. h)
+
 one-none : (c : ℕ) (x : Option ℕ) → x ≡ none
     → cond (eqb c 85) (withOne x update) (cond (eqb c 70) (withOne x fork) (cond (eqb c 83) (withOne x spare) unreadable)) ≡ unreadable
-one-none c x e = rw e (by (eqb c 85) (eqb c 70) (eqb c 83))
-  where
-    by : (p q r : Bool) → cond p unreadable (cond q unreadable (cond r unreadable unreadable)) ≡ unreadable
-    by true q r = refl
-    by false true r = refl
-    by false false true = refl
-    by false false false = refl
+one-none c x e = rw e (unread-or (eqb c 85) (unread-or (eqb c 70) (unread-or (eqb c 83) refl)))
 
 with-none : (x : Option ℕ) (f : ℕ → ℕ → Line) → withTwo x none f ≡ unreadable
 with-none none f = refl
 with-none (some a) f = refl
 
 either-none : (c : ℕ) → cond (eqb c 74) unreadable (cond (eqb c 67) unreadable unreadable) ≡ unreadable
-either-none c = by (eqb c 74) (eqb c 67)
-  where
-    by : (p q : Bool) → cond p unreadable (cond q unreadable unreadable) ≡ unreadable
-    by true q = refl
-    by false true = refl
-    by false false = refl
+either-none c = unread-or (eqb c 74) (unread-or (eqb c 67) refl)
 
 first-none : (c : ℕ) (a b : Text) → slotOf a ≡ none → twoSlots c a b ≡ unreadable
 first-none c a b e = rw e (either-none c)
@@ -52,11 +44,9 @@ no-letter c d l h = rw (ne-eqb d 32 h) (by (eqb c 32) (splitAt 32 l))
 
 pub read-one : (c : ℕ) (l : Text) → length l ≤ firstAt 32 l → readLine (c ∷ 32 ∷ l) ≡ oneSlot c l
 unfolding readLine splitAt
-read-one c l h = rw (split-none 32 l h) (by (eqb c 32) refl)
-  where
-    by : (b : Bool) → eqb c 32 ≡ b → byParts (cond b ([] ∷ ([] ∷ (l ∷ []))) ((c ∷ []) ∷ (l ∷ []))) ≡ oneSlot c l
-    by true e = rw (eqb-true c 32 e)
-    by false e = refl
+read-one c l h =
+    rw (split-none 32 l h)
+    (either (λ (ps : List Text). byParts ps ≡ oneSlot c l) (eqb c 32) (λ e. rw (eqb-true c 32 e)) (λ e. refl))
 
 pub read-two : (c : ℕ) (l : Text) → firstAt 32 l < length l
     → readLine (c ∷ 32 ∷ l) ≡ twoSlots c (take (firstAt 32 l) l) (drop (suc (firstAt 32 l)) l)
@@ -154,11 +144,7 @@ line-is (x ∷ (y ∷ l)) h e = rw e (ap (λ (m : Text). x ∷ 32 ∷ m) (take-a
 pub short-line : (l : Text) → length l < 2 → readLine l ≡ unreadable
 unfolding readLine splitAt
 short-line [] h = refl
-short-line (x ∷ []) h = by (eqb x 32)
-  where
-    by : (b : Bool) → byParts (cond b ([] ∷ ([] ∷ [])) ((x ∷ []) ∷ [])) ≡ unreadable
-    by true = refl
-    by false = refl
+short-line (x ∷ []) h = either (λ (ps : List Text). byParts ps ≡ unreadable) (eqb x 32) (λ e. refl) (λ e. refl)
 short-line (x ∷ (y ∷ l)) h = absurd (omega arith)
 
 pub unspaced-line : (l : Text) → 2 ≤ length l → (getD l 1 0 ≡ 32 → ⊥) → readLine l ≡ unreadable

@@ -1,19 +1,12 @@
 -- The slot that some bytes name: none where there are more than two or a space among them, and never above 99. Assumes nothing.
-use Rattle.laws.proofs.Library.{_≡_, refl, Bool, true, false, cond, not, _&&_, [], _∷_, none, some, ℕ, suc, _+_, _*_, _-_, _≤_, _<_, arith, leb-true}
-use Rattle.laws.proofs.Library.{eqb-true, lt-ltb, ne-eqb, eqb, leb, length, getD}
+use Rattle.laws.proofs.Library.{_≡_, refl, Bool, true, false, cond, not, _&&_, and-false, [], _∷_, Option·none-ne-some, none, some, ℕ, suc, _+_, _*_, _-_, _≤_}
+use Rattle.laws.proofs.Library.{_<_, arith, leb-true, eqb-true, lt-ltb, ne-eqb, eqb, leb, length, getD}
 use Rattle.rules.specs.Traces.{Text, slotOf, isDigit}
 use Rattle.laws.proofs.Tests.{and-left, and-right}
 use Rattle.lines.specs.Inner.{orNone, digitOf, twoDigits, firstAt}
 
-pub and-false : (a : Bool) → (a && false) ≡ false
-and-false true = refl
-and-false false = refl
-
 digit-le : (x : ℕ) → isDigit x ≡ true → x ≤ 57
 digit-le x e = leb-true x 57 (and-right (leb 48 x) (leb x 57) e)
-
-no-slot : {a : ℕ} → none ≡ some a → ⊥
-no-slot e = let z : _≡_ {A = ℕ} 0 1 = cc in omega arith
 
 -- a space is no digit
 pub slot-space : (l : Text) → firstAt 32 l < length l → slotOf l ≡ none
@@ -33,34 +26,35 @@ slot-space (x ∷ (y ∷ [])) h = by (eqb x 32) (eqb y 32) refl refl h
     by false false e f h = absurd (omega arith)
 slot-space (x ∷ (y ∷ (z ∷ l))) h = refl
 
-pub slot-short : (l : Text) → 3 ≤ length l → slotOf l ≡ none
+-- neither one byte nor two
+pub slot-other : (l : Text) → (length l ≡ 1 → ⊥) → (length l ≡ 2 → ⊥) → slotOf l ≡ none
 unfolding slotOf
-slot-short [] h = absurd (omega arith)
-slot-short (x ∷ []) h = absurd (omega arith)
-slot-short (x ∷ (y ∷ [])) h = absurd (omega arith)
-slot-short (x ∷ (y ∷ (z ∷ l))) h = refl
+slot-other [] h k = refl
+slot-other (x ∷ []) h k = absurd (h refl)
+slot-other (x ∷ (y ∷ [])) h k = absurd (k refl)
+slot-other (x ∷ (y ∷ (z ∷ l))) h k = refl
+
+pub slot-short : (l : Text) → 3 ≤ length l → slotOf l ≡ none
+slot-short l h = slot-other l (λ e. omega arith) (λ e. omega arith)
+
+given-below : (b : Bool) (n a : ℕ) → (b ≡ true → n < 100) → cond b (some n) none ≡ some a → a < 100
+given-below true n a h e = let k : n ≡ a = cc in omega (arith, h refl)
+given-below false n a h e = absurd (Option·none-ne-some a e)
 
 -- every slot is below 100, so 100 says that there is none
 pub slot-below : (l : Text) (a : ℕ) → slotOf l ≡ some a → a < 100
 unfolding slotOf
-slot-below [] a e = absurd (no-slot e)
-slot-below (x ∷ []) a e = by (isDigit x) refl e
+slot-below [] a e = absurd (Option·none-ne-some a e)
+slot-below (x ∷ []) a e = given-below (isDigit x) (x - 48) a (λ f. omega (arith, digit-le x f)) e
+slot-below (x ∷ (y ∷ [])) a e = given-below (isDigit x && isDigit y && not (eqb x 48)) ((x - 48) * 10 + (y - 48)) a two e
   where
-    by : (b : Bool) → isDigit x ≡ b → cond b (some (x - 48)) none ≡ some a → a < 100
-    by true f e = let k : x - 48 ≡ a = cc in omega (arith, digit-le x f)
-    by false f e = absurd (no-slot e)
-slot-below (x ∷ (y ∷ [])) a e = by (isDigit x && isDigit y && not (eqb x 48)) refl e
-  where
-    by : (b : Bool) → (isDigit x && isDigit y && not (eqb x 48)) ≡ b → cond b (some ((x - 48) * 10 + (y - 48))) none ≡ some a → a < 100
-    by true f e =
-        let k : (x - 48) * 10 + (y - 48) ≡ a = cc in
-        let g = and-left (isDigit x) (isDigit y) (and-left (isDigit x && isDigit y) (not (eqb x 48)) f) in
-        let h = and-right (isDigit x) (isDigit y) (and-left (isDigit x && isDigit y) (not (eqb x 48)) f) in
-        omega (arith, digit-le x g, digit-le y h)
-    by false f e = absurd (no-slot e)
-slot-below (x ∷ (y ∷ (z ∷ l))) a e = absurd (no-slot e)
+    two : (isDigit x && isDigit y && not (eqb x 48)) ≡ true → (x - 48) * 10 + (y - 48) < 100
+    two f =
+        let g = and-left (isDigit x && isDigit y) (not (eqb x 48)) f in
+        omega (arith, digit-le x (and-left (isDigit x) (isDigit y) g), digit-le y (and-right (isDigit x) (isDigit y) g))
+slot-below (x ∷ (y ∷ (z ∷ l))) a e = absurd (Option·none-ne-some a e)
 
--- by the number of bytes: one digit; two, of which the first is 0 or not; any other number
+-- by the number of bytes: one digit; two, of which the first is 0 or not
 pub slot-one : (l : Text) → length l ≡ 1 → digitOf (getD l 0 0) ≡ orNone (slotOf l)
 unfolding slotOf
 slot-one [] h = absurd (omega arith)
@@ -93,10 +87,3 @@ slot-two (x ∷ (y ∷ [])) h e = rw (ne-eqb x 48 e) (by (isDigit x) (isDigit y)
     by true false p q = rw and-false
     by false b p q = refl
 slot-two (x ∷ (y ∷ (z ∷ l))) h e = absurd (omega arith)
-
-pub slot-other : (l : Text) → (length l ≡ 1 → ⊥) → (length l ≡ 2 → ⊥) → 100 ≡ orNone (slotOf l)
-unfolding slotOf
-slot-other [] h k = refl
-slot-other (x ∷ []) h k = absurd (h refl)
-slot-other (x ∷ (y ∷ [])) h k = absurd (k refl)
-slot-other (x ∷ (y ∷ (z ∷ l))) h k = refl

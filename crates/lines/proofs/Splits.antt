@@ -5,16 +5,17 @@ use Rattle.laws.proofs.Library.{take, drop, drop-of-length-le, drop-cons}
 use Rattle.rules.specs.Traces.{Text, splitAt, ontoFirst}
 use Rattle.lines.specs.Inner.{firstAt}
 
+-- what holds on both ways of a test
+pub either : {A : Type 0} (P : A → Type 0) (b : Bool) {x y : A} → (b ≡ true → P x) → (b ≡ false → P y) → P (cond b x y)
+either P true p q = p refl
+either P false p q = q refl
+
 -- ---- where the first c stands
 
 pub first-le : (c : ℕ) (l : Text) → firstAt c l ≤ length l
 unfolding firstAt
 first-le c [] = omega arith
-first-le c (x ∷ l) = by (eqb x c) (first-le c l)
-  where
-    by : (b : Bool) → firstAt c l ≤ length l → cond b 0 (suc (firstAt c l)) ≤ suc (length l)
-    by true h = omega arith
-    by false h = omega arith
+first-le c (x ∷ l) = either (λ (k : ℕ). k ≤ suc (length l)) (eqb x c) (λ e. omega arith) (λ e. omega (arith, first-le c l))
 
 pub first-inside : (c : ℕ) (l : Text) (k : ℕ) → k ≡ firstAt c l → (k ≡ length l → ⊥) → k < length l
 first-inside c l k e h = omega (arith, first-le c l)
@@ -60,12 +61,9 @@ split-some c (x ∷ l) h = by (eqb x c) h (λ k. split-some c l k)
 pub parts : (c : ℕ) (l : Text) → (p : Text) × (ps : List Text) × (splitAt c l ≡ p ∷ ps)
 unfolding splitAt
 parts c [] = ([], [], refl)
-parts c (x ∷ l) = by (eqb x c) (parts c l)
-  where
-    by : (b : Bool) → (p : Text) × (ps : List Text) × (splitAt c l ≡ p ∷ ps)
-        → (p : Text) × (ps : List Text) × (cond b ([] ∷ splitAt c l) (ontoFirst x (splitAt c l)) ≡ p ∷ ps)
-    by true r = ([], splitAt c l, refl)
-    by false r = (x ∷ r .0, r .1, rw (r .2))
+parts c (x ∷ l) =
+    let r = parts c l in
+    either (λ (ls : List Text). (p : Text) × (ps : List Text) × (ls ≡ p ∷ ps)) (eqb x c) (λ e. ([], splitAt c l, refl)) (λ e. (x ∷ r .0, r .1, rw (r .2)))
 
 -- the bytes of all parts, and one more for each
 unfoldable pub spread : List Text → ℕ

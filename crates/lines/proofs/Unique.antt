@@ -6,7 +6,6 @@ use Rattle.lines.proofs.begin
 use Rattle.lines.proofs.push
 use Rattle.lines.proofs.parse
 use Rattle.lines.proofs.gather
-use Rattle.lines.proofs.print
 
 pub begin-one-answer : OneAnswer begin.ended (λ M 𝓤. begin.clauses 𝓤) (λ M 𝓤. begin.spec 𝓤)
 begin-one-answer M 𝓤 H A mem run = (refl, λ κs a g h r s v w. both-say 𝓤 (λ e f. (agree e f, refl)))
@@ -19,6 +18,3 @@ parse-one-answer M 𝓤 H A mem run = (refl, λ κs a g h r s v w. both-say 𝓤
 
 pub gather-one-answer : OneAnswer gather.ended (λ M 𝓤. gather.clauses 𝓤) (λ M 𝓤. gather.spec 𝓤)
 gather-one-answer M 𝓤 H A mem run = (refl, λ κs a g h r s v w. both-say 𝓤 (λ e f. (agree (e .0) (f .0), λ i. (tt, (tt, (agree (e .1) (f .1) i, tt))))))
-
-pub print-one-answer : OneAnswer print.ended (λ M 𝓤. print.clauses 𝓤) (λ M 𝓤. print.spec 𝓤)
-print-one-answer M 𝓤 H A mem run = (refl, λ κs a g h r s v w. both-say 𝓤 (λ e f. (agree (e .0) (f .0), λ i. (tt, (agree (e .1) (f .1) i, tt)))))

@@ -1,17 +1,12 @@
 -- What the private functions give. No public contract and no law of the crate rests on these: each is tied to the rules where it is used.
-use mathlib.Core.Path.{_≡_}
 use mathlib.Core.Bool.{cond, _&&_, _||_}
-use mathlib.Core.List.{List, [], _∷_}
+use mathlib.Core.List.{[], _∷_}
 use mathlib.Core.Option.{Option, none, some}
 use Prim.Native.Nat.{ℕ, zero, suc, _+_, _*_, _-_}
 use lib.Dec.{eqb, ltb}
-use lib.ListN.{length}
-use lib.Seq.{sets}
 use Rattle.rules.specs.Traces.{Text, isDigit}
 use Rattle.lines.specs.declared.Command.{Command}
 use Rattle.lines.specs.Commands.{unread}
-
--- ---- reading
 
 -- a slot's number, and 100 where there is none
 abbrev pub orNone : Option ℕ → ℕ
@@ -37,10 +32,3 @@ twoDigits x y = cond (ltb x 10 && ltb y 10) (x * 10 + y) 100
 unfoldable pub firstAt : ℕ → Text → ℕ
 firstAt c [] = zero
 firstAt c (x ∷ l) = cond (eqb x c) zero (suc (firstAt c l))
-
--- ---- writing
-
--- a text stored from a place on, and the place behind it
-pub record PutAt (before : List ℕ) (at : ℕ) (text : Text) (next : ℕ) (after : List ℕ) : Type 0 where
-  pub place : next ≡ at + length text
-  pub bytes : after ≡ sets before at text

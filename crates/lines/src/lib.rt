@@ -1,6 +1,5 @@
-// A trace's lines. The bytes of the input become commands, three numbers each, however the input is cut into pieces; and the numbers
-// of the answers become text. What stands between, the table, is for another crate: it puts each answer's number in the place of `a`.
-mod answers;
+// A trace's lines. The bytes of the input become commands, three numbers each, however the input is cut into pieces. The table is for
+// another crate, which puts each answer's number in the place of `a`.
 mod text;
 
 ghost use mathlib.Core.Path.{_≡_};
@@ -9,7 +8,6 @@ ghost use Prim.Native.Nat.{_+_, _≤_};
 ghost use lib.ListN.{length};
 ghost use lib.Seq.{sets};
 ghost use Rattle.lines.specs.Commands.{begun, pushed, parsed, gathered, gatheredIn};
-ghost use Rattle.lines.specs.Answers.{printed, printedIn};
 
 // The letters, as a command has them: U, F, J, C, S.
 pub const UPDATE: u64 = 85;
@@ -43,12 +41,6 @@ pub struct Gathered {
     pub line: Unfinished,
     pub taken: bool,
     pub count: usize,
-}
-
-// Whether there was room for the answers, and the length of their text.
-pub struct Printed {
-    pub taken: bool,
-    pub len: usize,
 }
 
 // The line before its first byte.
@@ -118,32 +110,6 @@ pub fn gather(line: Unfinished, piece: &[u8], commands: &mut [u64]) -> Gathered
         line: held,
         taken: true,
         count,
-    }
-}
-
-// The text of all answers that the commands hold, at the front of the buffer; the rest of it stays.
-// The buffer has to have 11 bytes for each answer. Where it has not, none is taken: nothing is written.
-pub fn print(commands: &[u64], out: &mut [u8]) -> Printed
-    ensures { λ r. ⌜ (r ≡ printed (now (commands .entry)) (now (out .entry)))
-        × (now (out .exit) ≡ printedIn (now (commands .entry)) (now (out .entry))) ⌝ }
-{
-    let count = commands.len() / 3;
-    if out.len() / 11 < count {
-        return Printed {
-            taken: false,
-            len: 0,
-        };
-    }
-    let mut at = 0;
-    let mut k = 0;
-    while k < count {
-        let i = 3 * k;
-        at = answers::put_answer(out, at, commands[i], commands[i + 1]);
-        k += 1;
-    }
-    Printed {
-        taken: true,
-        len: at,
     }
 }
 

@@ -1,6 +1,6 @@
 -- `lines::text::slot` meets its contract: by the number of bytes, and for two by whether the first is a zero. Assumes nothing.
-use Rattle.laws.proofs.Library.{ap₂, _∙_, arith, needs}
-use Rattle.lines.specs.Inner.{twoDigits}
+use Rattle.laws.proofs.Library.{sym, ap, ap₂, _∙_, arith, needs}
+use Rattle.lines.specs.Inner.{orNone, twoDigits}
 use Rattle.lines.proofs.Slots.{slot-one, slot-zero, slot-two, slot-other}
 use Rattle.lines.proofs.text.slot.Statement.{statement}
 use Rattle.lines.proofs.text.slot.Tie as tie
@@ -20,7 +20,7 @@ returns-3 c =
     c .two-digits .ensures ∙ ap₂ twoDigits (f .digit2 .ensures) (d .digit3 .ensures) ∙ slot-two (g .s .now) (omega arith) (i .if3 .left)
 
 returns-4 : tie.Need-returns-4
-returns-4 c = slot-other (c .before .before .before .args .s .now) (c .before .if1 .left) (c .if2 .left)
+returns-4 c = sym (ap orNone (slot-other (c .before .before .before .args .s .now) (c .before .if1 .left) (c .if2 .left)))
 
 pub slot-spec : {M : Type 1} → statement M
 slot-spec = tie.close (tie.spec (λ c. search needs) (λ c κs. search needs) returns (λ c. search needs) returns-2 (λ c. search needs)

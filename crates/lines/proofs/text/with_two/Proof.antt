@@ -1,9 +1,8 @@
 -- `lines::text::with_two` meets its contract: without two slots nothing is said; with both the letter decides. Assumes nothing.
-use Rattle.laws.proofs.Library.{needs, lt-ltb, le-ltb, ne-eqb, _≡_, _∙_, _⊎_, inl, inr, ⊎-elim, ℕ, _<_}
+use Rattle.laws.proofs.Library.{needs, lt-ltb, le-ltb, ne-eqb, _≡_, _∙_, and-false, _⊎_, inl, inr, ⊎-elim, ℕ, _<_}
 use Rattle.lines.specs.declared.Command.{Command}
 use Rattle.lines.specs.Commands.{unread}
 use Rattle.lines.specs.Inner.{twoCommand}
-use Rattle.lines.proofs.Slots.{and-false}
 use Rattle.lines.proofs.text.with_two.Statement.{statement}
 use Rattle.lines.proofs.text.with_two.Tie as tie
 

@@ -1,9 +1,9 @@
--- `lines::answers::put_number` meets its contract: one digit or two, and the newline. Assumes nothing.
+-- `printing::answers::put_number` meets its contract: one digit or two, and the newline. Assumes nothing.
 use Rattle.laws.proofs.Library.{lt-ltb, le-ltb, List, ℕ, _+_, _/_, _%_, _≤_, _<_, add-one, add-two, arith, set, length-set, needs}
-use Rattle.lines.specs.Answers.{numberText}
-use Rattle.lines.specs.Inner.{PutAt}
-use Rattle.lines.proofs.answers.put_number.Statement.{statement}
-use Rattle.lines.proofs.answers.put_number.Tie as tie
+use Rattle.printing.specs.Answers.{numberText}
+use Rattle.printing.specs.Inner.{PutAt}
+use Rattle.printing.proofs.answers.put_number.Statement.{statement}
+use Rattle.printing.proofs.answers.put_number.Tie as tie
 
 one-digit : (n at : ℕ) (out : List ℕ) → n % 100 < 10 → PutAt out at (numberText n) (at + 2) (set (set out at (48 + n % 100)) (at + 1) 10)
 unfolding numberText

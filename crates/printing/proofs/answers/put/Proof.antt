@@ -1,9 +1,9 @@
--- `lines::answers::put` meets its contract. The loop's invariant: what is left of the word, stored from here on, is the whole word stored.
+-- `printing::answers::put` meets its contract. The loop's invariant: what is left of the word, stored from here on, is the whole word stored.
 -- The measure is what is left. Assumes nothing.
 use Rattle.laws.proofs.Library.{needs, _≡_, refl, sym, _∙_, _+_, _-_, _≤_, add-zero, arith, length, drop, drop-of-length-le, sets}
-use Rattle.lines.proofs.Stores.{put-step}
-use Rattle.lines.proofs.answers.put.Statement.{statement}
-use Rattle.lines.proofs.answers.put.Tie as tie
+use Rattle.printing.proofs.Stores.{put-step}
+use Rattle.printing.proofs.answers.put.Statement.{statement}
+use Rattle.printing.proofs.answers.put.Tie as tie
 
 abbrev Inv-loop : tie.InvT-loop
 Inv-loop out₀ at word i₀ out i = (i ≤ length word) × (length out ≡ length out₀) × (sets out (at + i) (drop i word) ≡ sets out₀ at word)

@@ -1,9 +1,9 @@
--- `lines::answers::put_refused` meets its contract: the word, and the number behind it. Assumes nothing.
-use Rattle.lines.specs.Answers.{refusedNumber}
-use Rattle.lines.proofs.Stores.{put-then}
+-- `printing::answers::put_refused` meets its contract: the word, and the number behind it. Assumes nothing.
+use Rattle.printing.specs.Answers.{refusedNumber}
+use Rattle.printing.proofs.Stores.{put-then}
 use Rattle.laws.proofs.Library.{needs}
-use Rattle.lines.proofs.answers.put_refused.Statement.{statement}
-use Rattle.lines.proofs.answers.put_refused.Tie as tie
+use Rattle.printing.proofs.answers.put_refused.Statement.{statement}
+use Rattle.printing.proofs.answers.put_refused.Tie as tie
 
 returns : tie.Need-returns
 unfolding refusedNumber

@@ -1,9 +1,9 @@
--- `lines::answers::put_compared` meets its contract: a word for each verdict's number, and a refusal for any other. Assumes nothing.
+-- `printing::answers::put_compared` meets its contract: a word for each verdict's number, and a refusal for any other. Assumes nothing.
 use Rattle.laws.proofs.Library.{ne-eqb, needs}
 use Rattle.rules.specs.Traces.{verdictText}
-use Rattle.lines.specs.Answers.{comparedAnswer}
-use Rattle.lines.proofs.answers.put_compared.Statement.{statement}
-use Rattle.lines.proofs.answers.put_compared.Tie as tie
+use Rattle.printing.specs.Answers.{comparedAnswer}
+use Rattle.printing.proofs.answers.put_compared.Statement.{statement}
+use Rattle.printing.proofs.answers.put_compared.Tie as tie
 
 returns : tie.Need-returns
 unfolding comparedAnswer verdictText

@@ -4,7 +4,7 @@ use Rattle.laws.proofs.Library.{ne-eqb, eqb, ltb, length}
 use Rattle.rules.specs.Refusals.{number}
 use Rattle.rules.specs.Tables.{slotNumber, sparedNumber}
 use Rattle.rules.specs.Packed.{comparedNumber}
-use Rattle.rules.specs.Traces.{okText, refusedText, verdictText, slotText, comparedText, sparedText}
+use Rattle.rules.specs.Traces.{Text, okText, refusedText, verdictText, slotText, comparedText, sparedText}
 use Rattle.rules.specs.declared.Verdict.{Verdict}
 use Rattle.rules.specs.declared.Verdict.the-variants.{Equal, Obsolete, Newer, Conflict}
 use Rattle.rules.specs.declared.Refusal.{Refusal}
@@ -15,7 +15,8 @@ use Rattle.rules.specs.declared.Slot.{Slot}
 use Rattle.rules.specs.declared.Slot.the-variants.{At, Refused}
 use Rattle.rules.specs.declared.Spared.{Spared}
 use Rattle.rules.specs.declared.Spared.the-variants.{Spare, Kept, Refused as NotTold}
-use Rattle.lines.specs.Answers.{numberText, okNumber, refusedNumber, slotAnswer, comparedAnswer, sparedAnswer, answerText}
+use Rattle.lines.proofs.Splits.{either}
+use Rattle.printing.specs.Answers.{numberText, okNumber, refusedNumber, slotAnswer, comparedAnswer, sparedAnswer, answerText}
 
 -- ---- the numbers are the answers'
 
@@ -73,6 +74,9 @@ spared-text (NotTold r) = rw (big r 0 (omega arith), big r 1 (omega arith)) (ref
 
 -- ---- a line has at most 11 bytes
 
+abbrev Fits : Text → Type 0
+Fits t = length t ≤ 11
+
 number-room : (n : ℕ) → length (numberText n) ≤ 3
 unfolding numberText
 number-room n = by (ltb (n % 100) 10)
@@ -81,45 +85,27 @@ number-room n = by (ltb (n % 100) 10)
     by true = omega arith
     by false = omega arith
 
-refused-room : (n : ℕ) → length (refusedNumber n) ≤ 11
+refused-room : (n : ℕ) → Fits (refusedNumber n)
 unfolding refusedNumber
 refused-room n = omega (arith, number-room n)
 
-slot-room : (code : ℕ) → length (slotAnswer code) ≤ 11
+slot-room : (code : ℕ) → Fits (slotAnswer code)
 unfolding slotAnswer okNumber
-slot-room code = by (ltb code 1000)
-  where
-    by : (b : Bool) → length (cond b (okNumber code) (refusedNumber code)) ≤ 11
-    by true = omega (arith, number-room code)
-    by false = refused-room code
+slot-room code = either Fits (ltb code 1000) (λ e. omega (arith, number-room code)) (λ e. refused-room code)
 
-compared-room : (code : ℕ) → length (comparedAnswer code) ≤ 11
+compared-room : (code : ℕ) → Fits (comparedAnswer code)
 unfolding comparedAnswer verdictText
-compared-room code = by (eqb code 0) (eqb code 1) (eqb code 2) (eqb code 3)
-  where
-    by : (p q r s : Bool)
-        → length (cond p (verdictText Equal) (cond q (verdictText Obsolete) (cond r (verdictText Newer) (cond s (verdictText Conflict) (refusedNumber code))))) ≤ 11
-    by true q r s = omega arith
-    by false true r s = omega arith
-    by false false true s = omega arith
-    by false false false true = omega arith
-    by false false false false = refused-room code
+compared-room code =
+    either Fits (eqb code 0) (λ e. omega arith) (λ e.
+    either Fits (eqb code 1) (λ e. omega arith) (λ e.
+    either Fits (eqb code 2) (λ e. omega arith) (λ e. either Fits (eqb code 3) (λ e. omega arith) (λ e. refused-room code))))
 
-spared-room : (code : ℕ) → length (sparedAnswer code) ≤ 11
+spared-room : (code : ℕ) → Fits (sparedAnswer code)
 unfolding sparedAnswer
-spared-room code = by (eqb code 0) (eqb code 1)
-  where
-    by : (p q : Bool) → length (cond p (sparedText Kept) (cond q (sparedText Spare) (refusedNumber code))) ≤ 11
-    by true q = omega arith
-    by false true = omega arith
-    by false false = refused-room code
+spared-room code = either Fits (eqb code 0) (λ e. omega arith) (λ e. either Fits (eqb code 1) (λ e. omega arith) (λ e. refused-room code))
 
 pub answer-room : (op code : ℕ) → length (answerText op code) ≤ 11
 unfolding answerText
-answer-room op code = by (eqb op 85 || eqb op 70 || eqb op 74) (eqb op 67) (eqb op 83)
-  where
-    by : (p q r : Bool) → length (cond p (slotAnswer code) (cond q (comparedAnswer code) (cond r (sparedAnswer code) (refusedNumber 11)))) ≤ 11
-    by true q r = slot-room code
-    by false true r = compared-room code
-    by false false true = spared-room code
-    by false false false = refused-room 11
+answer-room op code =
+    either Fits (eqb op 85 || eqb op 70 || eqb op 74) (λ e. slot-room code) (λ e.
+    either Fits (eqb op 67) (λ e. compared-room code) (λ e. either Fits (eqb op 83) (λ e. spared-room code) (λ e. refused-room 11)))

@@ -2,13 +2,13 @@
 ghost use mathlib.Core.Path.{_≡_};
 ghost use Prim.Native.Nat.{_+_, _≤_};
 ghost use lib.ListN.{length};
-ghost use Rattle.lines.specs.Answers.{answerText, slotAnswer, comparedAnswer, sparedAnswer, refusedNumber, numberText};
-ghost use Rattle.lines.specs.Inner.{PutAt};
-use crate::COMPARE;
-use crate::FORK;
-use crate::JOIN;
-use crate::SPARE;
-use crate::UPDATE;
+ghost use Rattle.printing.specs.Answers.{answerText, slotAnswer, comparedAnswer, sparedAnswer, refusedNumber, numberText};
+ghost use Rattle.printing.specs.Inner.{PutAt};
+use lines::COMPARE;
+use lines::FORK;
+use lines::JOIN;
+use lines::SPARE;
+use lines::UPDATE;
 
 // From here on a number is a refusal.
 const REFUSED: u64 = 1000;

@@ -1,13 +1,13 @@
--- `lines::print` meets its contract. The loop's invariant: the answers to come, written from here on, are all answers written from the start;
+-- `printing::print` meets its contract. The loop's invariant: the answers to come, written from here on, are all answers written from the start;
 -- and each takes at most 11 bytes. The measure is how many are to come. Assumes nothing.
 use Rattle.laws.proofs.Library.{needs, _≡_, refl, sym, ap, _∙_, List, ℕ, _+_, _*_, _-_, _/_, _≤_, arith, length, getD}
-use Rattle.lines.specs.declared.Printed.{Printed}
-use Rattle.lines.specs.Answers.{answerText}
-use Rattle.lines.specs.Inner.{PutAt}
-use Rattle.lines.proofs.Texts.{answer-room}
-use Rattle.lines.proofs.Turns.{writes, writes-then, writes-all, writes-short, writes-end, answersFrom, answers-more}
-use Rattle.lines.proofs.print.Statement.{statement}
-use Rattle.lines.proofs.print.Tie as tie
+use Rattle.printing.specs.declared.Printed.{Printed}
+use Rattle.printing.specs.Answers.{answerText}
+use Rattle.printing.specs.Inner.{PutAt}
+use Rattle.printing.proofs.Texts.{answer-room}
+use Rattle.printing.proofs.Turns.{writes, writes-then, writes-all, writes-short, writes-end, answersFrom, answers-more}
+use Rattle.printing.proofs.print.Statement.{statement}
+use Rattle.printing.proofs.print.Tie as tie
 
 abbrev Inv-loop : tie.InvT-loop
 Inv-loop commands out₀ count at₀ k₀ out at k =

@@ -1,9 +1,8 @@
--- Stores one after the other are one store of what was stored, and a store at the front is that text over the buffer. Assumes nothing.
-use Rattle.laws.proofs.Library.{_≡_, sym, ap₂, _∙_, List, [], _∷_, _++_, ℕ, suc, _+_, _≤_, _<_, zero-add, add-zero, add-suc, suc-add, add-one, arith}
-use Rattle.laws.proofs.Library.{length, drop, getD, set, length-append, sets, sets-eq, drop-cons}
+-- Stores one after the other are one store of what was stored. Assumes nothing.
+use Rattle.laws.proofs.Library.{_≡_, sym, ap₂, _∙_, List, [], _∷_, _++_, ℕ, suc, _+_, _<_, add-zero, add-suc, suc-add, add-one, arith, length, drop, getD, set}
+use Rattle.laws.proofs.Library.{length-append, sets, drop-cons}
 use Rattle.rules.specs.Traces.{Text}
-use Rattle.rules.specs.Packed.{over}
-use Rattle.lines.specs.Inner.{PutAt}
+use Rattle.printing.specs.Inner.{PutAt}
 
 pub sets-append : (s t l : List ℕ) (i : ℕ) → sets l i (s ++ t) ≡ sets (sets l i s) (i + length s) t
 sets-append [] t l i = rw add-zero
@@ -16,9 +15,6 @@ put-then {a} {b} {d} {i} {j} {k} s t p q =
       place = omega (arith, p .place, q .place, length-append s t);
       bytes = q .bytes ∙ ap₂ (λ l n. sets l n t) (p .bytes) (p .place) ∙ sym (sets-append s t a i);
     }
-
-pub sets-front : (vs l : List ℕ) → length vs ≤ length l → sets l 0 vs ≡ over vs l
-sets-front vs l h = rw zero-add at (sets-eq vs l 0 (omega arith))
 
 -- one byte of a word, and then the rest of it
 pub put-step : (word out : List ℕ) (at i : ℕ) → i < length word

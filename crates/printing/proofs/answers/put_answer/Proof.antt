@@ -1,8 +1,8 @@
--- `lines::answers::put_answer` meets its contract: the letter says which kind of answer the number is. Assumes nothing.
+-- `printing::answers::put_answer` meets its contract: the letter says which kind of answer the number is. Assumes nothing.
 use Rattle.laws.proofs.Library.{ne-eqb, _≡_, _⊎_, inl, inr, ⊎-elim, ℕ, needs}
-use Rattle.lines.specs.Answers.{answerText, slotAnswer, refusedNumber}
-use Rattle.lines.proofs.answers.put_answer.Statement.{statement}
-use Rattle.lines.proofs.answers.put_answer.Tie as tie
+use Rattle.printing.specs.Answers.{answerText, slotAnswer, refusedNumber}
+use Rattle.printing.proofs.answers.put_answer.Statement.{statement}
+use Rattle.printing.proofs.answers.put_answer.Tie as tie
 
 abbrev Letter : ℕ → Type 0
 Letter op = (op ≡ 70) ⊎ ((op ≡ 74) ⊎ (op ≡ 85))

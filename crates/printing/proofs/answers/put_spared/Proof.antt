@@ -1,8 +1,8 @@
--- `lines::answers::put_spared` meets its contract: a word for kept, one for spare, and a refusal for any other number. Assumes nothing.
+-- `printing::answers::put_spared` meets its contract: a word for kept, one for spare, and a refusal for any other number. Assumes nothing.
 use Rattle.laws.proofs.Library.{ne-eqb, needs}
-use Rattle.lines.specs.Answers.{sparedAnswer}
-use Rattle.lines.proofs.answers.put_spared.Statement.{statement}
-use Rattle.lines.proofs.answers.put_spared.Tie as tie
+use Rattle.printing.specs.Answers.{sparedAnswer}
+use Rattle.printing.proofs.answers.put_spared.Statement.{statement}
+use Rattle.printing.proofs.answers.put_spared.Tie as tie
 
 returns : tie.Need-returns
 unfolding sparedAnswer

@@ -8,9 +8,9 @@ use Rattle.rules.specs.Traces.{Text, decimal, verdictText, sparedText}
 use Rattle.rules.specs.Packed.{over}
 use Rattle.rules.specs.declared.Verdict.the-variants.{Equal, Obsolete, Newer, Conflict}
 use Rattle.rules.specs.declared.Spared.the-variants.{Spare, Kept}
 use Rattle.lines.specs.declared.Command.{Command}
-use Rattle.lines.specs.declared.Printed.{Printed}
 use Rattle.lines.specs.Commands.{heldIn}
+use Rattle.printing.specs.declared.Printed.{Printed}
 
 -- a number's two last digits, then newline
 unfoldable pub numberText : ℕ → Text

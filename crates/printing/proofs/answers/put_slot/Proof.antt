@@ -1,9 +1,9 @@
--- `lines::answers::put_slot` meets its contract: by whether the number is a slot's. Assumes nothing.
+-- `printing::answers::put_slot` meets its contract: by whether the number is a slot's. Assumes nothing.
 use Rattle.laws.proofs.Library.{lt-ltb, le-ltb, needs}
-use Rattle.lines.specs.Answers.{slotAnswer, okNumber}
-use Rattle.lines.proofs.Stores.{put-then}
-use Rattle.lines.proofs.answers.put_slot.Statement.{statement}
-use Rattle.lines.proofs.answers.put_slot.Tie as tie
+use Rattle.printing.specs.Answers.{slotAnswer, okNumber}
+use Rattle.printing.proofs.Stores.{put-then}
+use Rattle.printing.proofs.answers.put_slot.Statement.{statement}
+use Rattle.printing.proofs.answers.put_slot.Tie as tie
 
 returns : tie.Need-returns
 unfolding slotAnswer okNumber
