@@ -1,8 +1,8 @@
 -- Numbers and their bits: a field of any width says the number's low bits, and bits are the field of the number that they say.
 -- Assumes nothing.
-use Rattle.laws.proofs.Library.{_≡_, refl, sym, ap, ap₂, _∙_, Bool, true, false, List, [], _∷_, _++_, ℕ, zero, suc, _+_, _*_, _-_, _/_, _%_, _^_}
-use Rattle.laws.proofs.Library.{_≤_, _<_, pow-suc, le-of-suc-le-suc, not-suc-le-zero, mul-assoc, mul-comm, add-mul, mod-eq-of-lt, mul-le-mul-right}
-use Rattle.laws.proofs.Library.{arith, eqb, mod-pow-add, high, length, getD, replicate}
+use Rattle.laws.proofs.Library.{_≡_, refl, sym, ap, ap₂, _∙_, Bool, true, false, List, [], _∷_, _++_, ℕ, zero, suc, _+_, _*_, _/_, _%_, _^_}
+use Rattle.laws.proofs.Library.{_≤_, _<_, pow-suc, mul-assoc, mul-comm, add-mul, mod-eq-of-lt, mul-le-mul-right, arith, eqb, mod-pow-add, high}
+use Rattle.laws.proofs.Library.{length, replicate}
 use Rattle.rules.specs.Strings.{digit, field, valueFrom, value}
 
 pub field-length : (w a : ℕ) → length (field w a) ≡ w
@@ -19,13 +19,6 @@ digit-eqb (suc (suc x)) h = absurd (omega arith)
 pub digit-lt : (x : Bool) → digit x < 2
 digit-lt true = omega arith
 digit-lt false = omega arith
-
--- bit j of a field, counted from the highest
-pub field-at : (k a j : ℕ) → j < k → getD (field k a) j false ≡ eqb (a / 2 ^ (k - 1 - j) % 2) 1
-unfolding field
-field-at zero a j h = absurd (not-suc-le-zero h)
-field-at (suc k) a zero h = ap (λ (n : ℕ). eqb (a / 2 ^ n % 2) 1) (omega arith)
-field-at (suc k) a (suc j) h = field-at k a j (le-of-suc-le-suc h) ∙ ap (λ (n : ℕ). eqb (a / 2 ^ n % 2) 1) (omega arith)
 
 pub value-snoc : (a : ℕ) (s : List Bool) (x : Bool) → valueFrom a (s ++ (x ∷ [])) ≡ valueFrom a s * 2 + digit x
 unfolding valueFrom

@@ -1,7 +1,7 @@
 -- The names of the kit's library that proofs use, passed on in one place, so that a proof opens with one line of them.
 pub use mathlib.Core.Path.{_∙_, _≡_, ap, ap₂, refl, subst, subst₂, sym}
 pub use mathlib.Core.Logic.{_↔_, _⊎_, inl, inr, ⊎-elim}
-pub use mathlib.Core.Bool.{Bool, Bool·beq, _&&_, _||_, and-assoc, and-false, and-true, cond, false, not, true}
+pub use mathlib.Core.Bool.{Bool, Bool·beq, _&&_, _||_, and-assoc, and-false, and-true, cond, false, not, or-true, true}
 pub use mathlib.Core.Option.{Option, Option·none-ne-some, Option·some-injective, none, some}
 pub use mathlib.Core.List.{List, [], _++_, _∷_, append-assoc, append-nil, dropLast, map, map-append, reverse, reverseAux}
 pub use Prim.Native.Nat.{_%_, _*_, _+_, _-_, _/_, _<_, _^_, _≤_, max, min, suc, suc-le-suc, zero, zero-le, ℕ}
