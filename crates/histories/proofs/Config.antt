@@ -1,13 +1,12 @@
 -- Configurations: what each slot holds, with no limits, and what every history keeps of it (Invariants 4.4 to 4.6 and Proposition 5.1
 -- of the paper). It survives forgetting slots, and a step that moves copies without changing what they know. Assumes nothing.
-use Rattle.laws.proofs.Library.{_≡_, refl, sym, ap, _∙_, subst, Bool, true, false, cond, List, [], _∷_, _++_, inl, inr, ⊎-elim, ℕ, _≤_, _<_, arith, eqb}
+use Rattle.laws.proofs.Library.{_≡_, refl, sym, ap, _∙_, subst, Bool, true, false, List, [], _∷_, _++_, inl, inr, ⊎-elim, ℕ, _≤_, _<_, arith, eqb}
 use Rattle.laws.proofs.Library.{length, eqb-true, eqb-false}
-use Rattle.rules.specs.Strings.{Str, prefix}
+use Rattle.rules.specs.Strings.{Str}
 use Rattle.rules.specs.Names.{all, rising, covered}
-use Rattle.rules.specs.Stamps.{Stamp, start}
-use Rattle.laws.proofs.Tests.{In, in-left, in-right, in-append}
+use Rattle.rules.specs.Stamps.{Stamp}
+use Rattle.laws.proofs.Tests.{decide, In, in-left, in-right, in-append}
 use Rattle.laws.proofs.Below.{covered-some, some-covered, in-covered, covered-down, below-refl}
-use Rattle.laws.proofs.Steps.{Proper}
 use Rattle.histories.specs.Configurations.{AllPresent, Among, Config, Covers, Seen, Sound, Under, Within, initial, restricted}
 
 -- slot x is slot a, or another
@@ -16,11 +15,7 @@ pub data Where (a x : ℕ) : Type 0 where
   there : (x ≡ a → ⊥) → eqb x a ≡ false → Where a x
 
 pub is-where : (a x : ℕ) → Where a x
-is-where a x = by (eqb x a) refl
-  where
-    by : (b : Bool) → eqb x a ≡ b → Where a x
-    by true e = here (eqb-true x a e) e
-    by false e = there (eqb-false x a e) e
+is-where a x = elim (decide (eqb x a)) [ inl e ↦ here (eqb-true x a e) e | inr e ↦ there (eqb-false x a e) e ]
 
 -- and what passes one test there passes another
 pub among : {S : List ℕ} {P Q : ℕ → Type 0} → ((b : ℕ) → In b S → P b → Q b) → Among S P → Among S Q

@@ -2,7 +2,7 @@
 -- (Invariant 4.5), so nothing that another copy's name is asked changes (section 6 of the paper). Assumes nothing.
 use Rattle.laws.proofs.Library.{_≡_, refl, sym, _∙_, subst, Bool, true, false, List, [], inr, ⊎-elim, ℕ, _≤_, length}
 use Rattle.rules.specs.Strings.{Str, prefix, _▹_}
-use Rattle.rules.specs.Names.{rising, covered}
+use Rattle.rules.specs.Names.{covered}
 use Rattle.rules.specs.Stamps.{settle, settled}
 use Rattle.laws.proofs.Tests.{clash, decide, In}
 use Rattle.laws.proofs.Prefix.{prefix-grown, prefix-goes-on, grown-not-prefix}
@@ -10,7 +10,7 @@ use Rattle.laws.proofs.Rising.{rising-antichain}
 use Rattle.laws.proofs.Below.{covered-some, some-covered, in-covered, covered-down, covered-below}
 use Rattle.laws.proofs.Settle.{Other, Way, holds, lacks, way, settle-in, in-settle}
 use Rattle.laws.proofs.Steps.{Proper, settle-covered, covered-settle, covered-settle-update, settled-proper}
-use Rattle.histories.specs.Configurations.{AllPresent, Config, Covers, Sound, Under, Within, put, settledAt}
+use Rattle.histories.specs.Configurations.{AllPresent, Config, Covers, Sound, Under, Within, settledAt}
 use Rattle.histories.proofs.Config.{Where, here, there, is-where, among}
 
 module _ (C : Config) (q : Sound C) (c : ℕ) (pc : C .present c ≡ true) (s : Str) (zero-in : In (s ▹ false) (C .stamp c .id))
@@ -41,43 +41,29 @@ module _ (C : Config) (q : Sound C) (c : ℕ) (pc : C .present c ≡ true) (s : 
   -- update names cover nothing new
   back : (y : ℕ) (r : Str) → covered r (D .stamp y .update) ≡ true → covered r (C .stamp y .update) ≡ true
   unfolding settled
-  back y r h = by (is-where c y)
-    where
-      by : Where c y → covered r (C .stamp y .update) ≡ true
-      by (here p e) = rw p (settle-covered s (C .stamp c .update) r (rw e at h))
-      by (there n e) = rw e at h
+  back y r h = elim (is-where c y) [ here p e ↦ rw p (settle-covered s (C .stamp c .update) r (rw e at h)) | there n e ↦ rw e at h ]
 
   back-id : (y : ℕ) (r : Str) → covered r (D .stamp y .id) ≡ true → covered r (C .stamp y .id) ≡ true
   unfolding settled
-  back-id y r h = by (is-where c y)
-    where
-      by : Where c y → covered r (C .stamp y .id) ≡ true
-      by (here p e) = rw p (settle-covered s (C .stamp c .id) r (rw e at h))
-      by (there n e) = rw e at h
+  back-id y r h = elim (is-where c y) [ here p e ↦ rw p (settle-covered s (C .stamp c .id) r (rw e at h)) | there n e ↦ rw e at h ]
 
   -- and lose s0 and s1 alone
   still : (y : ℕ) (r : Str) → Other s r → covered r (C .stamp y .update) ≡ true → covered r (D .stamp y .update) ≡ true
   unfolding settled
-  still y r o h = by (is-where c y)
-    where
-      by : Where c y → covered r (D .stamp y .update) ≡ true
-      by (here p e) = rw e (covered-settle s (C .stamp c .update) r (rw p at h) o)
-      by (there n e) = rw e h
+  still y r o h = elim (is-where c y) [ here p e ↦ rw e (covered-settle s (C .stamp c .update) r (rw p at h) o) | there n e ↦ rw e h ]
 
   others : (y : ℕ) (r : Str) → C .present y ≡ true → covered r (D .stamp y .update) ≡ true → Other s r
   unfolding settled
-  others y r py h = by (is-where c y)
-    where
-      by : Where c y → Other s r
-      by (here p e) = covered-settle-update s (C .stamp c) (q .proper c pc) zero-in one-in r .0 (rw e at h) .1
-      by (there n e) = other-covered y r py n (under-id y r py (rw e at h))
+  others y r py h = elim (is-where c y) [
+    | here p e ↦ covered-settle-update s (C .stamp c) (q .proper c pc) zero-in one-in r .0 (rw e at h) .1
+    | there n e ↦ other-covered y r py n (under-id y r py (rw e at h))
+  ]
+
+  settled-here : Proper (settled s (C .stamp c))
+  settled-here = settled-proper s (C .stamp c) (q .proper c pc) zero-in one-in
 
   proper-after : (x : ℕ) → C .present x ≡ true → Proper (D .stamp x)
-  proper-after x px = by (is-where c x)
-    where
-      by : Where c x → Proper (D .stamp x)
-      by (here p e) = rw e (settled-proper s (C .stamp c) (q .proper c pc) zero-in one-in)
-      by (there n e) = rw e (q .proper x px)
+  proper-after x px = elim (is-where c x) [ here p e ↦ rw e settled-here | there n e ↦ rw e (q .proper x px) ]
 
   nonempty-after : (x : ℕ) → C .present x ≡ true → (t : Str) × In t (D .stamp x .update)
   unfolding prefix
@@ -102,17 +88,13 @@ module _ (C : Config) (q : Sound C) (c : ℕ) (pc : C .present c ≡ true) (s : 
       let u = covered-some r (C .stamp c .id) e in
       n (q .apart x c r (u .one) px pc i (u .inside) (u .passes) .0)
 
-  settled-id-rising : rising (settle s (C .stamp c .id)) ≡ true
-  unfolding settled
-  settled-id-rising = settled-proper s (C .stamp c) (q .proper c pc) zero-in one-in .idRising
-
   apart-after : (x y : ℕ) (r t : Str) → C .present x ≡ true → C .present y ≡ true → In r (D .stamp x .id) → In t (D .stamp y .id)
       → prefix r t ≡ true → (x ≡ y) × (r ≡ t)
   unfolding settled
   apart-after x y r t px py i j h = by (is-where c x) (is-where c y)
     where
       by : Where c x → Where c y → (x ≡ y) × (r ≡ t)
-      by (here p e) (here o f) = (p ∙ sym o, rising-antichain (settle s (C .stamp c .id)) settled-id-rising r t (rw e at i) (rw f at j) h)
+      by (here p e) (here o f) = (p ∙ sym o, rising-antichain (settle s (C .stamp c .id)) (settled-here .idRising) r t (rw e at i) (rw f at j) h)
       by (there n e) (there m f) = q .apart x y r t px py (rw e at i) (rw f at j) h
       by (here p e) (there m f) = absurd (from-c y r t py m (rw e at i) (rw f at j) h)
       by (there n e) (here o f) = absurd (to-c x r t px n (rw e at i) (rw f at j) h)

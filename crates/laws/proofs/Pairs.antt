@@ -1,11 +1,11 @@
 -- In rising order x0 and x1 stand side by side: so `pair` finds what a walk over neighbours finds first. Assumes nothing.
-use Rattle.laws.proofs.Library.{_≡_, refl, sym, ap, ap₂, _∙_, subst, Bool, true, false, cond, _&&_, [], _∷_, dropLast, inl, inr, ⊎-elim, Option}
-use Rattle.laws.proofs.Library.{none, some, ℕ, suc, _≤_, arith, eqb, eqb·suc-suc, length, eqb-true}
+use Rattle.laws.proofs.Library.{_≡_, refl, sym, ap, ap₂, _∙_, subst, Bool, true, false, cond, _&&_, [], _∷_, dropLast, inl, inr, ⊎-elim}
+use Rattle.laws.proofs.Library.{Option, none, some, ℕ, suc, _≤_, arith, eqb, eqb·suc-suc, length, eqb-true}
 use Rattle.rules.specs.Strings.{Str, prefix, less, common, siblings, _▹_}
 use Rattle.rules.specs.Names.{Name, member, rising}
 use Rattle.rules.specs.Stamps.{pairAmong, pair}
 use Rattle.laws.proofs.Tests.{no, clash, iff, not-true, and-left, and-right, and-both, In}
-use Rattle.laws.proofs.Rising.{less-trans, less-irrefl, rising-head, rising-tail, rising-antichain}
+use Rattle.laws.proofs.Rising.{less-trans, less-irrefl, twins-less, rising-head, rising-tail, rising-antichain}
 use Rattle.laws.proofs.Below.{member-in, in-member}
 use Rattle.laws.proofs.Settle.{drop-grown}
 
@@ -56,12 +56,6 @@ pub twins-siblings : (x : Str) → siblings (x ▹ false) (x ▹ true) ≡ true
 unfolding siblings common
 twins-siblings [] = refl
 twins-siblings (a ∷ x) = siblings-cons a (x ▹ false) (x ▹ true) ∙ twins-siblings x
-
-pub twins-less : (x : Str) → less (x ▹ false) (x ▹ true) ≡ true
-unfolding less
-twins-less [] = refl
-twins-less (true ∷ x) = twins-less x
-twins-less (false ∷ x) = twins-less x
 
 -- nothing comes between x0 and x1
 pub none-between : (x t : Str) → less (x ▹ false) t ≡ true → less t (x ▹ true) ≡ true → ⊥

@@ -1,20 +1,15 @@
 -- Rising order: an order in which strings, none a prefix of another, have one listing. Assumes nothing.
 use Rattle.laws.proofs.Library.{_≡_, refl, sym, ap₂, _∙_, subst, Bool, true, false, List, [], _∷_, _⊎_, inl, inr, ⊎-elim}
-use Rattle.rules.specs.Strings.{Str, prefix, same, less}
+use Rattle.rules.specs.Strings.{Str, prefix, same, less, _▹_}
 use Rattle.rules.specs.Names.{Name, all, rising, insert, sorted}
 use Rattle.laws.proofs.Tests.{no, clash, decide, and-left, and-right, and-both, In, all-each, each-all}
 use Rattle.laws.proofs.Prefix.{prefix-refl, same-is, same-refl}
-
-no-less : (t : Str) → less t [] ≡ false
-unfolding less
-no-less [] = refl
-no-less (x ∷ t) = refl
 
 pub less-trans : (s t u : Str) → less s t ≡ true → less t u ≡ true → less s u ≡ true
 unfolding less
 less-trans [] t u p q = absurd (no p)
 less-trans (a ∷ s) [] u p q = absurd (no p)
-less-trans (a ∷ s) (b ∷ t) [] p q = absurd (clash q (no-less (b ∷ t)))
+less-trans (a ∷ s) (b ∷ t) [] p q = absurd (no q)
 less-trans (true ∷ s) (true ∷ t) (true ∷ u) p q = less-trans s t u p q
 less-trans (false ∷ s) (false ∷ t) (false ∷ u) p q = less-trans s t u p q
 less-trans (false ∷ s) (false ∷ t) (true ∷ u) p q = refl
@@ -45,6 +40,13 @@ less-total (true ∷ s) (true ∷ t) p q r = less-total s t p q r
 less-total (false ∷ s) (false ∷ t) p q r = less-total s t p q r
 less-total (true ∷ s) (false ∷ t) p q r = refl
 less-total (false ∷ s) (true ∷ t) p q r = absurd (no (sym r))
+
+-- s0 comes before s1
+pub twins-less : (s : Str) → less (s ▹ false) (s ▹ true) ≡ true
+unfolding less
+twins-less [] = refl
+twins-less (true ∷ s) = twins-less s
+twins-less (false ∷ s) = twins-less s
 
 -- ---- rising lists
 

@@ -1,16 +1,16 @@
 -- Steps of reduction at a stamp whose id holds s0 and s1: each keeps a proper stamp proper and leaves one string less in the id,
 -- and two different steps commute. What was covered stays covered, except s0 and s1. Assumes nothing.
-use Rattle.laws.proofs.Library.{_≡_, refl, sym, ap, _∙_, subst, Bool, true, false, [], _∷_, dropLast, _⊎_, inl, inr, ⊎-elim, _↔_, ℕ, suc, _+_, _≤_}
-use Rattle.laws.proofs.Library.{arith, length}
-use Rattle.rules.specs.Strings.{Str, prefix, same, less, _▹_}
+use Rattle.laws.proofs.Library.{_≡_, refl, sym, ap, _∙_, subst, Bool, true, false, [], _∷_, dropLast, _⊎_, inl, inr, ⊎-elim, _↔_, ℕ, suc, _+_}
+use Rattle.laws.proofs.Library.{_≤_, arith, length}
+use Rattle.rules.specs.Strings.{Str, prefix, same, _▹_}
 use Rattle.rules.specs.Names.{Name, all, rising, covered, below, insert}
 use Rattle.rules.specs.Stamps.{Stamp, settle, settled}
-use Rattle.laws.proofs.Tests.{clash, decide, not-true, In, Some}
+use Rattle.laws.proofs.Tests.{clash, decide, not-true, In, in-filled, Some}
 use Rattle.laws.proofs.Prefix.{prefix-refl, prefix-trans, prefix-antisym, prefix-grown, prefix-of-grown, prefix-goes-on, grown-not-prefix}
 use Rattle.laws.proofs.Prefix.{same-is, not-same}
-use Rattle.laws.proofs.Rising.{rising-antichain, rising-unique, in-insert, insert-rising}
+use Rattle.laws.proofs.Rising.{twins-less, rising-antichain, rising-unique, in-insert, insert-rising}
 use Rattle.laws.proofs.Below.{covered-some, some-covered, covered-below, below-each, below-by-covered, below-refl}
-use Rattle.laws.proofs.Settle.{Held, Other, Way, holds, lacks, way, settle-in, in-settle, drop-grown}
+use Rattle.laws.proofs.Settle.{Held, Other, holds, lacks, way, settle-in, in-settle, drop-grown}
 use Rattle.laws.proofs.Sums.{keep-rising, total, length-total, total-exchange, beyond, beyond-is}
 
 -- both names rising, and u below i: what reduction needs and keeps
@@ -31,20 +31,11 @@ grown-same s t d e p = sym (drop-grown s d) ∙ ap dropLast p ∙ drop-grown t e
 grown-other : (s t : Str) (d : Bool) → (s ≡ t → ⊥) → Other t (s ▹ d)
 grown-other s t d h = (λ p. h (grown-same s t d false p), λ p. h (grown-same s t d true p))
 
-siblings-less : (s : Str) → less (s ▹ false) (s ▹ true) ≡ true
-unfolding less
-siblings-less [] = refl
-siblings-less (true ∷ s) = siblings-less s
-siblings-less (false ∷ s) = siblings-less s
-
 other-cases : (s x : Str) → ((x ≡ s ▹ false) ⊎ (x ≡ s ▹ true)) ⊎ Other s x
-other-cases s x = by (decide (same x (s ▹ false))) (decide (same x (s ▹ true)))
-  where
-    by : (same x (s ▹ false) ≡ true) ⊎ (same x (s ▹ false) ≡ false) → (same x (s ▹ true) ≡ true) ⊎ (same x (s ▹ true) ≡ false)
-        → ((x ≡ s ▹ false) ⊎ (x ≡ s ▹ true)) ⊎ Other s x
-    by (inl p) q = inl (inl (same-is x (s ▹ false) p))
-    by (inr p) (inl q) = inl (inr (same-is x (s ▹ true) q))
-    by (inr p) (inr q) = inr (not-same p, not-same q)
+other-cases s x = elim (decide (same x (s ▹ false))) [
+  | inl p ↦ inl (inl (same-is x (s ▹ false) p))
+  | inr p ↦ elim (decide (same x (s ▹ true))) [ inl q ↦ inl (inr (same-is x (s ▹ true) q)) | inr q ↦ inr (not-same p, not-same q) ]
+]
 
 other-at : (s x : Str) (d : Bool) → Other s x → x ≡ s ▹ d → ⊥
 other-at s x false o e = o .0 e
@@ -64,7 +55,11 @@ settle-covered s n r e =
 
 -- and what is neither s0 nor s1 is covered still
 pub covered-settle : (s : Str) (n : Name) (r : Str) → covered r n ≡ true → Other s r → covered r (settle s n) ≡ true
-covered-settle s n r e o = by (other-cases s (a .one))
+covered-settle s n r e o = elim (other-cases s (a .one)) [
+  | inl (inl p) ↦ shrunk false (inl (rw p at (a .inside))) (rw p at (a .passes))
+  | inl (inr p) ↦ shrunk true (inr (rw p at (a .inside))) (rw p at (a .passes))
+  | inr h ↦ some-covered r (settle s n) (a .one) (in-settle s n (a .one) (inl (a .inside, h))) (a .passes)
+]
   where
     a : Some (prefix r) n
     a = covered-some r n e
@@ -73,21 +68,8 @@ covered-settle s n r e o = by (other-cases s (a .one))
     shrunk : (d : Bool) → Held s n → prefix r (s ▹ d) ≡ true → covered r (settle s n) ≡ true
     shrunk d h p = ⊎-elim (some-covered r (settle s n) s (in-settle s n s (inr (refl, h)))) (λ q. absurd (other-at s r d o q)) (prefix-of-grown r s d p)
 
-    by : ((a .one ≡ s ▹ false) ⊎ (a .one ≡ s ▹ true)) ⊎ Other s (a .one) → covered r (settle s n) ≡ true
-    by (inl (inl p)) = shrunk false (inl (rw p at (a .inside))) (rw p at (a .passes))
-    by (inl (inr p)) = shrunk true (inr (rw p at (a .inside))) (rw p at (a .passes))
-    by (inr h) = some-covered r (settle s n) (a .one) (in-settle s n (a .one) (inl (a .inside, h))) (a .passes)
-
 pub settle-nonempty : (s : Str) (n : Name) → 1 ≤ length n → 1 ≤ length (settle s n)
-settle-nonempty s n h = by (way s n)
-  where
-    filled : (l : Name) → In s l → 1 ≤ length l
-    filled [] i = absurd i
-    filled (x ∷ l) i = omega arith
-
-    by : Way s n → 1 ≤ length (settle s n)
-    by (holds k e) = filled (settle s n) (in-settle s n s (inr (refl, k)))
-    by (lacks k e) = rw e h
+settle-nonempty s n h = elim (way s n) [ holds k e ↦ in-filled s (settle s n) (in-settle s n s (inr (refl, k))) | lacks k e ↦ rw e h ]
 
 -- ---- one step, in a name n below a rising name i that holds s0 and s1: for a stamp, n is its update or its id
 
@@ -117,7 +99,7 @@ module _ (s : Str) (n i : Name) (n-rising : rising n ≡ true) (i-rising : risin
           (prefix-goes-on s t p)
 
   pub settle-rising : rising (settle s n) ≡ true
-  settle-rising = by (way s n)
+  settle-rising = elim (way s n) [ holds h e ↦ put _ h e (keep-rising _ n n-rising) | lacks h e ↦ rw e n-rising ]
     where
       put : (m : Name) → Held s n → settle s n ≡ insert s m → rising m ≡ true → rising (settle s n) ≡ true
       put m h e r =
@@ -125,10 +107,6 @@ module _ (s : Str) (n i : Name) (n-rising : rising n ≡ true) (i-rising : risin
           (insert-rising s m
           (λ t k. ⊎-elim (λ l. inr (apart h t (l .0) (l .1))) (λ l. inl (sym (l .0))) (settle-in s n t (rw e (in-insert s m t (inr k)))))
           r)
-
-      by : Way s n → rising (settle s n) ≡ true
-      by (holds h e) = put _ h e (keep-rising _ n n-rising)
-      by (lacks h e) = rw e n-rising
 
   -- s0 and s1 are covered no longer
   pub settle-other : (r : Str) → covered r (settle s n) ≡ true → Other s r
@@ -189,7 +167,7 @@ module _ (s : Str) (x : Stamp) (ok : Proper x) (zero-in : In (s ▹ false) (x .i
   goes : beyond (x .id) (settle s (x .id)) ≡ (s ▹ false) ∷ (s ▹ true) ∷ []
   unfolding rising all
   goes =
-      beyond-is (x .id) (settle s (x .id)) ((s ▹ false) ∷ (s ▹ true) ∷ []) (ok .idRising) (rw (siblings-less s))
+      beyond-is (x .id) (settle s (x .id)) ((s ▹ false) ∷ (s ▹ true) ∷ []) (ok .idRising) (rw (twins-less s))
       (λ t i h. ⊎-elim (λ e. ⊎-elim (λ z. inl z) (λ z. inr (inl z)) e) (λ o. absurd (h (in-settle s (x .id) t (inl (i, o))))) (other-cases s t))
       (λ t i. ⊎-elim (λ e. rw e (zero-in, leaves false)) (λ j. ⊎-elim (λ e. rw e (one-in, leaves true)) (λ k. absurd k) j) i)
 

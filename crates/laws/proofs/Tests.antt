@@ -1,6 +1,6 @@
 -- Tests and what they say: `any`, `all`, `keep` and `member` as statements about the elements. Assumes nothing.
 use Rattle.laws.proofs.Library.{_≡_, refl, sym, _∙_, subst, Bool, true, false, not, _&&_, _||_, or-true, List, [], _∷_, _++_, _⊎_, inl, inr}
-use Rattle.laws.proofs.Library.{⊎-elim, ℕ, _≤_, _<_, arith, leb, leb-true, leb-false}
+use Rattle.laws.proofs.Library.{⊎-elim, ℕ, _≤_, _<_, arith, length, leb, leb-true, leb-false}
 use Rattle.rules.specs.Names.{any, all, keep}
 
 pub no : false ≡ true → ⊥
@@ -71,6 +71,11 @@ module _ {A : Type 0} where
   pub in-append : (x : A) (l m : List A) → In x (l ++ m) → In x l ⊎ In x m
   in-append x [] m i = inr i
   in-append x (y ∷ l) m i = ⊎-elim (λ h. inl (inl h)) (λ h. ⊎-elim (λ k. inl (inr k)) (λ k. inr k) (in-append x l m h)) i
+
+  -- a list with an element is not empty
+  pub in-filled : (x : A) (l : List A) → In x l → 1 ≤ length l
+  in-filled x [] i = absurd i
+  in-filled x (y ∷ l) i = omega arith
 
   -- some element passes p
   pub record Some (p : A → Bool) (l : List A) : Type 0 where
