@@ -4,10 +4,10 @@ use Rattle.laws.proofs.Library.{Option, none, some, ℕ, suc, _≤_, ar
 use Rattle.rules.specs.Strings.{Str, prefix, less, common, siblings, _▹_}
 use Rattle.rules.specs.Names.{Name, member, rising}
 use Rattle.rules.specs.Stamps.{pairAmong, pair}
-use Rattle.laws.proofs.Tests.{no, clash, iff, not-true, and-left, and-right, and-both, In}
+use Rattle.laws.proofs.Tests.{no, clash, decide, iff, not-true, and-left, and-right, and-both, In}
 use Rattle.laws.proofs.Rising.{less-trans, less-irrefl, twins-less, rising-head, rising-tail, rising-antichain}
 use Rattle.laws.proofs.Below.{member-in, in-member}
-use Rattle.laws.proofs.Settle.{drop-grown}
+use Rattle.laws.proofs.Settle.{both, both-in, in-both, drop-grown}
 
 -- the first two neighbours that are siblings, less their last digit
 unfoldable pub firstTwins : Name → Option Str
@@ -92,19 +92,10 @@ module _ (n : Name) (h : rising n ≡ true) where
     left : (x : Str) → In (x ▹ true) l → In (x ▹ false) n → In (x ▹ false) l
     right : (x : Str) → In (x ▹ false) l → In (x ▹ true) n → In (x ▹ true) l
 
-  abbrev both : Str → Bool
-  both x = member (x ▹ false) n && member (x ▹ true) n
-
-  both-in : (x : Str) → both x ≡ true → In (x ▹ false) n × In (x ▹ true) n
-  both-in x e = (
-    member-in (x ▹ false) n (and-left (member (x ▹ false) n) (member (x ▹ true) n) e),
-    member-in (x ▹ true) n (and-right (member (x ▹ false) n) (member (x ▹ true) n) e),
-  )
-
   -- x is what the last digit was taken from
-  both-root : (s x : Str) (d : Bool) → s ≡ x ▹ d → In (x ▹ false) n → In (x ▹ true) n → both (dropLast s) ≡ true
+  both-root : (s x : Str) (d : Bool) → s ≡ x ▹ d → In (x ▹ false) n → In (x ▹ true) n → both n (dropLast s) ≡ true
   both-root s x d e i j =
-      subst (λ (y : Str). both y ≡ true) (sym (ap dropLast e ∙ drop-grown x d)) (and-both (in-member (x ▹ false) n i) (in-member (x ▹ true) n j))
+      rw (ap dropLast e ∙ drop-grown x d) (in-both n x i j)
 
   -- s is x0, and x1 stands behind it
   record Leads (s : Str) (l : Name) : Type 0 where
@@ -113,16 +104,16 @@ module _ (n : Name) (h : rising n ≡ true) where
     twin : In (root ▹ true) l
 
   -- the head of a part, where n has both: it is the left one
-  head-leads : (s : Str) (l : Name) → rising (s ∷ l) ≡ true → Part (s ∷ l) → both (dropLast s) ≡ true → Leads s l
+  head-leads : (s : Str) (l : Name) → rising (s ∷ l) ≡ true → Part (s ∷ l) → both n (dropLast s) ≡ true → Leads s l
   unfolding prefix
   head-leads s l k p e = by (end s)
     where
       root-in : (x : Str) (d : Bool) → s ≡ x ▹ d → In (x ▹ false) n × In (x ▹ true) n
-      root-in x d f = both-in x (subst (λ (y : Str). both y ≡ true) (ap dropLast f ∙ drop-grown x d) e)
+      root-in x d f = both-in n x (subst (λ (y : Str). both n y ≡ true) (ap dropLast f ∙ drop-grown x d) e)
 
       by : End s → Leads s l
       by (empty f) =
-          let c = rising-antichain n h s (dropLast s ▹ false) (p .within s (inl refl)) (both-in (dropLast s) e .0) (rw f) in
+          let c = rising-antichain n h s (dropLast s ▹ false) (p .within s (inl refl)) (both-in n (dropLast s) e .0) (rw f) in
           absurd (omega (arith, ap length (rw f at c)))
       by (more x true f) =
           absurd
@@ -137,7 +128,7 @@ module _ (n : Name) (h : rising n ≡ true) where
             (p .right x (inl (sym f)) (root-in x false f .1));
       }
 
-  tail-part : (s : Str) (l : Name) → Part (s ∷ l) → both (dropLast s) ≡ false → Part l
+  tail-part : (s : Str) (l : Name) → Part (s ∷ l) → both n (dropLast s) ≡ false → Part l
   tail-part s l p e = record {
     within = λ x i. p .within x (inr i);
     left = λ x i j. ⊎-elim (λ g. absurd (clash (both-root s x false (sym g) j (p .within (x ▹ true) (inr i))) e)) (λ g. g) (p .left x (inr i) j);
@@ -145,7 +136,7 @@ module _ (n : Name) (h : rising n ≡ true) where
   }
 
   -- at two neighbours the two walks ask the same
-  next-test : (s t : Str) (l : Name) → rising (s ∷ t ∷ l) ≡ true → Part (s ∷ t ∷ l) → both (dropLast s) ≡ siblings s t
+  next-test : (s t : Str) (l : Name) → rising (s ∷ t ∷ l) ≡ true → Part (s ∷ t ∷ l) → both n (dropLast s) ≡ siblings s t
   next-test s t l k p =
       iff
       (λ e. let w = head-leads s (t ∷ l) k p e in
@@ -160,12 +151,12 @@ module _ (n : Name) (h : rising n ≡ true) where
   unfolding pairAmong firstTwins
   walk [] k p = refl
   walk (s ∷ []) k p = ap (λ (b : Bool). cond b (some (dropLast s)) none) (not-true (λ e. head-leads s [] k p e .twin))
-  walk (s ∷ t ∷ l) k p = by (both (dropLast s)) refl (λ e. walk (t ∷ l) (rising-tail s (t ∷ l) k) (tail-part s (t ∷ l) p e))
-    where
-      by : (b : Bool) → both (dropLast s) ≡ b → (both (dropLast s) ≡ false → pairAmong (t ∷ l) n ≡ firstTwins (t ∷ l))
-          → cond b (some (dropLast s)) (pairAmong (t ∷ l) n) ≡ cond (siblings s t) (some (dropLast s)) (firstTwins (t ∷ l))
-      by true e ih = rw (sym (next-test s t l k p) ∙ e)
-      by false e ih = rw (sym (next-test s t l k p) ∙ e) (ih e)
+  walk (s ∷ t ∷ l) k p =
+      let same = sym (next-test s t l k p) in
+      elim (decide (both n (dropLast s))) [
+        | inl e ↦ rw (e, same ∙ e)
+        | inr e ↦ rw (e, same ∙ e) (walk (t ∷ l) (rising-tail s (t ∷ l) k) (tail-part s (t ∷ l) p e))
+      ]
 
   -- in rising order: what `pair` finds is the first two neighbours that are siblings
   pub neighbour-pair : pair n ≡ firstTwins n
