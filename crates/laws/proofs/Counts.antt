@@ -2,12 +2,12 @@
 -- So a name below another has no more strings than it: two prefixes of one string are comparable, and in a name none is a prefix of another.
 -- Assumes nothing.
 use Rattle.laws.proofs.Library.{_≡_, refl, sym, ap, _∙_, subst, true, List, [], _∷_, _⊎_, inl, inr, ⊎-elim, suc, _≤_, zero-le, arith, length}
-use Rattle.rules.specs.Strings.{Str, prefix}
+use Rattle.rules.specs.Strings.{prefix}
 use Rattle.rules.specs.Names.{Name, rising, below}
 use Rattle.laws.proofs.Tests.{clash, In}
 use Rattle.laws.proofs.Prefix.{prefix-comparable}
 use Rattle.laws.proofs.Rising.{less-apart, rising-head, rising-tail}
-use Rattle.laws.proofs.Below.{covered-some, in-covered, below-each, each-below}
+use Rattle.laws.proofs.Below.{covered-some, below-each}
 
 module _ {A : Type 0} where
   -- what is left of a list without one place of x

@@ -1,12 +1,11 @@
 -- In rising order x0 and x1 stand side by side: so `pair` finds what a walk over neighbours finds first. Assumes nothing.
-use Rattle.laws.proofs.Library.{_≡_, refl, sym, ap, ap₂, _∙_, subst, Bool, true, false, cond, _&&_, [], _∷_, dropLast, inl, inr, ⊎-elim}
-use Rattle.laws.proofs.Library.{Option, none, some, ℕ, suc, _≤_, arith, eqb, eqb·suc-suc, length, eqb-true}
+use Rattle.laws.proofs.Library.{_≡_, refl, sym, ap, ap₂, _∙_, subst, Bool, true, false, cond, [], _∷_, dropLast, inl, inr, ⊎-elim, Option}
+use Rattle.laws.proofs.Library.{none, some, ℕ, suc, _≤_, arith, eqb, eqb·suc-suc, length, eqb-true}
 use Rattle.rules.specs.Strings.{Str, prefix, less, common, siblings, _▹_}
-use Rattle.rules.specs.Names.{Name, member, rising}
+use Rattle.rules.specs.Names.{Name, rising}
 use Rattle.rules.specs.Stamps.{pairAmong, pair}
-use Rattle.laws.proofs.Tests.{no, clash, decide, iff, not-true, and-left, and-right, and-both, In}
+use Rattle.laws.proofs.Tests.{no, clash, decide, iff, not-true, and-left, and-right, In}
 use Rattle.laws.proofs.Rising.{less-trans, less-irrefl, twins-less, rising-head, rising-tail, rising-antichain}
-use Rattle.laws.proofs.Below.{member-in, in-member}
 use Rattle.laws.proofs.Settle.{both, both-in, in-both, drop-grown}
 
 -- the first two neighbours that are siblings, less their last digit

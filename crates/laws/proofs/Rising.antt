@@ -1,5 +1,5 @@
 -- Rising order: an order in which strings, none a prefix of another, have one listing. Assumes nothing.
-use Rattle.laws.proofs.Library.{_≡_, refl, sym, ap₂, _∙_, subst, Bool, true, false, List, [], _∷_, _⊎_, inl, inr, ⊎-elim}
+use Rattle.laws.proofs.Library.{_≡_, refl, sym, ap₂, _∙_, subst, true, false, List, [], _∷_, _⊎_, inl, inr, ⊎-elim}
 use Rattle.rules.specs.Strings.{Str, prefix, same, less, _▹_}
 use Rattle.rules.specs.Names.{Name, all, rising, insert, sorted}
 use Rattle.laws.proofs.Tests.{no, clash, decide, and-left, and-right, and-both, In, all-each, each-all}

@@ -11,7 +11,7 @@ use Rattle.rules.specs.declared.Words.{Words}
 use Rattle.rules.specs.declared.Record.{Record}
 use Rattle.laws.proofs.Tests.{no, not-true, and-left, and-right, and-both, In}
 use Rattle.laws.proofs.Words.{str-word}
-use Rattle.laws.proofs.Lawful.{Short, name-parts, lawful-parts}
+use Rattle.laws.proofs.Lawful.{Short, lawful-parts}
 
 -- ---- records are the same when their numbers are
 

@@ -1,7 +1,7 @@
 -- The union of two names: rising, with exactly the strings of both that no other properly extends; and the least upper bound.
 -- Assumes nothing.
-use Rattle.laws.proofs.Library.{_≡_, refl, ap, _∙_, Bool, true, false, not, _&&_, _||_, List, [], _∷_, _++_, _⊎_, inl, inr, ⊎-elim, ℕ, zero, suc}
-use Rattle.laws.proofs.Library.{_+_, _≤_, _<_, arith, lt-of-not-le, length}
+use Rattle.laws.proofs.Library.{_≡_, refl, ap, _∙_, Bool, true, not, _&&_, _||_, List, [], _∷_, _++_, inl, inr, ⊎-elim, ℕ, zero, suc, _+_, _≤_}
+use Rattle.laws.proofs.Library.{_<_, arith, lt-of-not-le, length}
 use Rattle.rules.specs.Strings.{Str, prefix, same}
 use Rattle.rules.specs.Names.{Name, any, keep, rising, covered, below, outgrown, union, unions}
 use Rattle.laws.proofs.Tests.{clash, decide, not-true, not-false, iff, and-left, and-right, and-both, or-cases, or-left, or-right, not-is, is-not, In, in-left, in-right, in-append, Some, any-some, some-any, none-any, keep-in, in-keep}
@@ -64,19 +64,17 @@ in-room (t ∷ l) s i = ⊎-elim (λ e. omega (arith, ap length e)) (λ h. omega
 climb : (l : List Str) (k : ℕ) (s : Str) → In s l → room l ≤ length s + k → Some (prefix s) (keep (λ x. not (outgrown x l)) l)
 unfolding outgrown
 climb l zero s i h = absurd (omega (arith, in-room l s i))
-climb l (suc k) s i h = by (decide (outgrown s l)) (λ t j g. climb l k t j g)
-  where
-    by : (outgrown s l ≡ true) ⊎ (outgrown s l ≡ false) → ((t : Str) → In t l → room l ≤ length t + k → Some (prefix t) (keep (λ x. not (outgrown x l)) l))
-        → Some (prefix s) (keep (λ x. not (outgrown x l)) l)
-    by (inr e) up = record { one = s; inside = in-keep (λ x. not (outgrown x l)) l s i (is-not e); passes = prefix-refl s }
-    by (inl e) up =
-        let a = any-some (λ t. prefix s t && not (same s t)) l e in
-        let t : Str = a .one in
-        let p : prefix s t ≡ true = and-left (prefix s t) (not (same s t)) (a .passes) in
-        let longer : length s < length t =
-        lt-of-not-le (λ g. clash (is-same (prefix-whole s t p g)) (not-is (and-right (prefix s t) (not (same s t)) (a .passes)))) in
-        let u = up t (a .inside) (omega arith) in
-        record { one = u .one; inside = u .inside; passes = prefix-trans s t (u .one) p (u .passes) }
+climb l (suc k) s i h = elim (decide (outgrown s l)) [
+  | inr e ↦ record { one = s; inside = in-keep (λ x. not (outgrown x l)) l s i (is-not e); passes = prefix-refl s }
+  | inl e ↦
+      let a = any-some (λ t. prefix s t && not (same s t)) l e in
+      let t : Str = a .one in
+      let p : prefix s t ≡ true = and-left (prefix s t) (not (same s t)) (a .passes) in
+      let longer : length s < length t =
+      lt-of-not-le (λ g. clash (is-same (prefix-whole s t p g)) (not-is (and-right (prefix s t) (not (same s t)) (a .passes)))) in
+      let u = climb l k t (a .inside) (omega arith) in
+      record { one = u .one; inside = u .inside; passes = prefix-trans s t (u .one) p (u .passes) }
+]
 
 -- what a string of either covers, the union covers
 over-union : (s : Str) (m n : Name) (t : Str) → In t (m ++ n) → prefix s t ≡ true → covered s (union m n) ≡ true
