@@ -30,10 +30,10 @@ four a b c d e =
 abbrev pub Short : ℕ → Name → Type 0
 Short most n = (s : Str) → In s n → length s ≤ most
 
-short-all : (most : ℕ) (n : Name) → Short most n → all (λ s. leb (length s) most) n ≡ true
+pub short-all : (most : ℕ) (n : Name) → Short most n → all (λ s. leb (length s) most) n ≡ true
 short-all most n f = each-all (λ s. leb (length s) most) n (λ s i. le-leb (length s) most (f s i))
 
-all-short : (most : ℕ) (n : Name) → all (λ s. leb (length s) most) n ≡ true → Short most n
+pub all-short : (most : ℕ) (n : Name) → all (λ s. leb (length s) most) n ≡ true → Short most n
 all-short most n e s i = leb-true (length s) most (all-each (λ t. leb (length t) most) n e s i)
 
 -- "A name is a set of 1 to 16 strings, none a prefix of another", each of 0 to 24 digits

@@ -1,14 +1,15 @@
 -- Names and stamps go through the packed bits and back: the count says how many strings follow, and each says how long it is.
 -- What is read rises as a name does. Assumes nothing.
-use Rattle.laws.proofs.Library.{_≡_, refl, sym, ap, ap₂, _∙_, subst, subst₂, Bool, true, cond, _&&_, List, [], _∷_, _++_, append-assoc, inl, ⊎-elim, none}
-use Rattle.laws.proofs.Library.{some, ℕ, zero, suc, _+_, _-_, _^_, _≤_, _<_, arith, leb-true, le-leb, leb, lit<, lit≤, length}
+use Rattle.laws.proofs.Library.{_≡_, refl, sym, ap, ap₂, _∙_, subst, subst₂, Bool, true, cond, List, [], _∷_, _++_, append-assoc, inl, none, some, ℕ}
+use Rattle.laws.proofs.Library.{zero, suc, _-_, _^_, _≤_, _<_, arith, leb-true, le-leb, leb, lit<, lit≤, length}
 use Rattle.rules.specs.Limits.{Limits, narrow}
 use Rattle.rules.specs.Strings.{Str, field, less}
-use Rattle.rules.specs.Names.{Name, all, rising, isName, below}
-use Rattle.rules.specs.Stamps.{Stamp, lawful, isNone, pair}
+use Rattle.rules.specs.Names.{Name, all, rising, isName}
+use Rattle.rules.specs.Stamps.{Stamp, lawful}
 use Rattle.rules.specs.Packed.{stringBits, stringsBits, nameBits, stampBits, thenTake, takeString, takeMore, takeName, takeStamp}
 use Rattle.laws.proofs.Tests.{and-left, and-right, and-both}
-use Rattle.laws.proofs.Rising.{less-trans, rising-head, rising-tail, rising-cons}
+use Rattle.laws.proofs.Rising.{rising-head, rising-tail, rising-cons, rising-before}
+use Rattle.laws.proofs.Lawful.{short-all, all-short, name-parts, parts-name, lawful-parts}
 use Rattle.layout.proofs.Fields.{let-through, same-value, steps, go-on, number-back, took-number, string-back, took-string}
 
 -- the fields are wide enough for what the limits allow
@@ -31,33 +32,13 @@ pub record Named (L : Limits) (n : Name) : Type 0 where
   pub rises : rising n ≡ true
 
 pub named : (L : Limits) (n : Name) → isName L n ≡ true → Named L n
-unfolding isName
 named L n h =
-    let a = leb 1 (length n) in
-    let b = leb (length n) (L .strings) in
-    let c = allShort L n in
-    let abc : (a && b && c) ≡ true = and-left (a && b && c) (rising n) h in
-    let ab : (a && b) ≡ true = and-left (a && b) c abc in
-    record {
-      nonempty = leb-true 1 (length n) (and-left a b ab);
-      few = leb-true (length n) (L .strings) (and-right a b ab);
-      short = and-right (a && b) c abc;
-      rises = and-right (a && b && c) (rising n) h;
-    }
-
-pub is-name : (L : Limits) (n : Name) → Named L n → isName L n ≡ true
-unfolding isName
-is-name L n i = and-both (and-both (and-both (le-leb 1 (length n) (i .nonempty)) (le-leb (length n) (L .strings) (i .few))) (i .short)) (i .rises)
+    let p = name-parts L n h in
+    record { nonempty = p .filled; few = p .few; short = short-all (L .digits) n (p .short); rises = p .rises }
 
 -- both parts of a lawful stamp are names
 pub lawful-names : (L : Limits) (s : Stamp) → lawful L s ≡ true → (isName L (s .update) ≡ true) × (isName L (s .id) ≡ true)
-unfolding lawful
-lawful-names L s h =
-    let u = isName L (s .update) in
-    let i = isName L (s .id) in
-    let b = below (s .update) (s .id) in
-    let both : (u && i) ≡ true = and-left (u && i) b (and-left (u && i && b) (isNone (pair (s .id))) h) in
-    (and-left u i both, and-right u i both)
+lawful-names L s h = let p = lawful-parts L s h in (parts-name L (s .update) (p .updateNamed), parts-name L (s .id) (p .idNamed))
 
 module _ (L : Limits) where
   -- ---- short strings
@@ -73,11 +54,6 @@ module _ (L : Limits) where
   short-cons : (s : Str) (n : Name) → length s ≤ L .digits → allShort L n ≡ true → allShort L (s ∷ n) ≡ true
   unfolding all
   short-cons s n p h = and-both (le-leb (length s) (L .digits) p) h
-
-  -- a string before the first of rising ones is before them all
-  rising-before : (s t : Str) (n : Name) → less s t ≡ true → rising (t ∷ n) ≡ true → rising (s ∷ t ∷ n) ≡ true
-  rising-before s t n p h =
-      rising-cons s (t ∷ n) (λ u i. ⊎-elim (λ e. subst (λ (x : Str). less s x ≡ true) (sym e) p) (λ j. less-trans s t u p (rising-head t n h u j)) i) h
 
   -- ---- the strings after the first
 
@@ -124,10 +100,7 @@ module _ (L : Limits) where
   name-bits : (s : Str) (n : Name) (rest : List Bool)
       → nameBits L (s ∷ n) ++ rest ≡ field (L .countBits) (length n) ++ (stringBits L s ++ (stringsBits L n ++ rest))
   unfolding nameBits stringsBits
-  name-bits s n rest =
-      ap (λ (k : ℕ). field (L .countBits) k ++ (stringBits L s ++ stringsBits L n) ++ rest) (let e : suc (length n) - 1 ≡ length n = omega arith in e)
-      ∙ append-assoc (field (L .countBits) (length n)) (stringBits L s ++ stringsBits L n) rest
-      ∙ ap (λ (r : List Bool). field (L .countBits) (length n) ++ r) (append-assoc (stringBits L s) (stringsBits L n) rest)
+  name-bits s n rest = let e : suc (length n) - 1 ≡ length n = omega arith in simp (e, append-assoc)
 
   pub name-back : Fitting L → (n : Name) (rest : List Bool) → isName L n ≡ true → takeName L (nameBits L n ++ rest) ≡ some (n, rest)
   unfolding takeName
@@ -201,4 +174,4 @@ module _ (L : Limits) where
       subst (λ (t : Stamp). (isName L (t .update) ≡ true) × (isName L (t .id) ≡ true)) (p .0) (by u (took-name bs u r first), by i (took-name r i end second))))
     where
       by : {bs rest : List Bool} (n : Name) → Found bs n rest → isName L n ≡ true
-      by n f = is-name L n (record { nonempty = f .nonempty; few = omega (arith, f .few); short = f .short; rises = f .rises })
+      by n f = parts-name L n (record { filled = f .nonempty; few = omega (arith, f .few); short = all-short (L .digits) n (f .short); rises = f .rises })
