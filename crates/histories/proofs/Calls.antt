@@ -1,7 +1,6 @@
 -- The records in memory are those of a history: an event set beside a table decides nothing about its records, so calls by their own
 -- definitions leave what a history has; and a trace's lines leave what its calls do. Assumes nothing.
-use Rattle.laws.proofs.Library.{_≡_, refl, sym, ap, _∙_, subst, List, [], _∷_, _++_, append-assoc, ℕ, _≤_, arith, eqb, ltb, length, eqb-false}
-use Rattle.laws.proofs.Library.{ltb-false}
+use Rattle.laws.proofs.Library.{_≡_, refl, sym, ap, _∙_, subst, List, [], _∷_, _++_, append-assoc, ℕ, _≤_, arith, eqb, ltb, length, eqb-false, ltb-false}
 use Rattle.rules.specs.Limits.{Limits, narrow, records}
 use Rattle.rules.specs.Refusals.{first}
 use Rattle.rules.specs.Tables.{Table, Step, badSize, freshTable, makeFresh, updateAt, forkAt, joinAt}

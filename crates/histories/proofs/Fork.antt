@@ -11,7 +11,7 @@ use Rattle.laws.proofs.Fork.{grown-is, Grown, append-in, covered-append}
 use Rattle.laws.proofs.Steps.{Proper}
 use Rattle.laws.proofs.Lawful.{fork-proper}
 use Rattle.histories.specs.Configurations.{Config, Sound, forked, put}
-use Rattle.histories.proofs.Config.{here, there, is-where, Reads, Moved, moved-reads, reads-nonempty, reads-fresh, reads-known, reads-shown}
+use Rattle.histories.proofs.Config.{here, there, is-where, ApartIn, SeenIn, Moved, moved-reads, reads-sound}
 
 -- a string and the one that it was grown from
 root-prefix : (d : Bool) (i : Name) (x : Str) (g : Grown d i x) → prefix (g .root) x ≡ true
@@ -49,9 +49,6 @@ module _ (C : Config) (q : Sound C) (a b : ℕ) (pa : C .present a ≡ true) whe
     sets = λ x p. elim (is-where b x) [ here e c ↦ rw c | there n c ↦ rw c ];
     next = refl;
   }
-
-  reads : Reads C D (λ x. old x ∷ [])
-  reads = moved-reads C D old moved
 
   -- a slot holds a branch of a, or what it held
   data Place (x : ℕ) : Type 0 where
@@ -92,8 +89,7 @@ module _ (C : Config) (q : Sound C) (a b : ℕ) (pa : C .present a ≡ true) whe
         (λ h. (grown-is (f .root) (g .root) c d (sym (f .grown) ∙ h) .1, h ∙ sym (g .grown)))
         (prefix-of-root d (C .stamp a .id) t g s e)
 
-  apart-after : (x y : ℕ) (s t : Str) → D .present x ≡ true → D .present y ≡ true → In s (D .stamp x .id) → In t (D .stamp y .id)
-      → prefix s t ≡ true → (x ≡ y) × (s ≡ t)
+  apart-after : ApartIn D
   unfolding fork
   apart-after x y s t px py i j e = by (place x px) (place y py)
     where
@@ -111,8 +107,7 @@ module _ (C : Config) (q : Sound C) (a b : ℕ) (pa : C .present a ≡ true) whe
       let p : prefix (g .root ▹ d) (t .one) ≡ true = subst (λ (x : Str). prefix x (t .one) ≡ true) (g .grown) (t .passes) in
       too-long (g .root) (t .one) d (λ l. q .apart a z (g .root) (t .one) pa pz (g .inside) (t .inside) l .1) p
 
-  seen-after : (x y : ℕ) (r : Str) → D .present x ≡ true → D .present y ≡ true → In r (D .stamp x .update) → covered r (D .stamp y .id) ≡ true
-      → covered r (D .stamp y .update) ≡ true
+  seen-after : SeenIn D
   unfolding fork
   seen-after x y r px py i h =
       let z : ℕ = old x in
@@ -127,12 +122,4 @@ module _ (C : Config) (q : Sound C) (a b : ℕ) (pa : C .present a ≡ true) whe
       ]
 
   pub fork-sound : Sound (forked a b C)
-  fork-sound = record {
-    proper = proper-after;
-    nonempty = reads-nonempty C D (λ x. old x ∷ []) reads q;
-    apart = apart-after;
-    seen = seen-after;
-    fresh = reads-fresh C D (λ x. old x ∷ []) reads q;
-    known = reads-known C D (λ x. old x ∷ []) reads q;
-    shown = reads-shown C D (λ x. old x ∷ []) reads q;
-  }
+  fork-sound = reads-sound C D (λ x. old x ∷ []) (moved-reads C D old moved) q proper-after apart-after seen-after

@@ -1,7 +1,7 @@
 -- Every call keeps the invariant: one that is refused changes nothing, and one that is accepted does to the table what its step does to
 -- the configuration, since the stored shape of a lawful stamp tells that stamp. Assumes nothing.
-use Rattle.laws.proofs.Library.{_≡_, refl, sym, ap, _∙_, Bool, true, false, cond, [], _∷_, _++_, ⊎-elim, ℕ, suc, _+_, _≤_, _<_, arith, eqb, length}
-use Rattle.laws.proofs.Library.{set, length-set, getD-set-other, eqb-false, eq-eqb}
+use Rattle.laws.proofs.Library.{_≡_, refl, sym, ap, _∙_, Bool, true, false, cond, [], _∷_, _++_, ⊎-elim, ℕ, suc, _+_, _≤_, _<_, arith, eqb, length, set}
+use Rattle.laws.proofs.Library.{length-set, getD-set-other, eqb-false, eq-eqb}
 use Rattle.rules.specs.Limits.{Limits}
 use Rattle.rules.specs.Stamps.{Stamp, lawful, update, fork, unite, join, sumShares}
 use Rattle.rules.specs.Stored.{stored, held, blank, absent}

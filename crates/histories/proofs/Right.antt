@@ -1,8 +1,8 @@
 -- A table that keeps the invariant is right: events and update names agree by Proposition 5.1, ids that are apart never overlap, what an
 -- id covers its update has seen, and stored shapes are lawful; so refusals 8, 9 and 12 have no cause. Assumes nothing.
-use Rattle.laws.proofs.Library.{_≡_, refl, sym, ap, ap₂, _∙_, subst, Bool, true, false, cond, not, _&&_, _||_, List, [], _∷_, _++_, map, inl, _↔_, ℕ}
-use Rattle.laws.proofs.Library.{zero, suc, _+_, _≤_, _<_, zero-add, arith, eqb, length, drop, drop-of-length-le, drop-cons, eqb-true, eqb-false}
-use Rattle.laws.proofs.Library.{eq-eqb, ne-eqb, le-ltb}
+use Rattle.laws.proofs.Library.{_≡_, refl, sym, ap, ap₂, _∙_, subst, Bool, true, false, cond, not, _&&_, _||_, List, [], _∷_, _++_, map, inl, _↔_, ℕ, zero}
+use Rattle.laws.proofs.Library.{suc, _+_, _≤_, _<_, zero-add, arith, eqb, length, drop, drop-of-length-le, drop-cons, eqb-true, eqb-false, eq-eqb, ne-eqb}
+use Rattle.laws.proofs.Library.{le-ltb}
 use Rattle.rules.specs.Limits.{Limits, records}
 use Rattle.rules.specs.Strings.{Str}
 use Rattle.rules.specs.Names.{Name, any, covered, below, unions}

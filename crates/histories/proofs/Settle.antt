@@ -11,7 +11,7 @@ use Rattle.laws.proofs.Below.{covered-some, some-covered, in-covered, covered-d
 use Rattle.laws.proofs.Settle.{Other, Way, holds, lacks, way, settle-in, in-settle}
 use Rattle.laws.proofs.Steps.{Proper, settle-covered, covered-settle, covered-settle-update, settled-proper}
 use Rattle.histories.specs.Configurations.{AllPresent, Config, Covers, Sound, Under, Within, settledAt}
-use Rattle.histories.proofs.Config.{Where, here, there, is-where, among}
+use Rattle.histories.proofs.Config.{Where, here, there, is-where, among, ApartIn, SeenIn}
 
 module _ (C : Config) (q : Sound C) (c : ℕ) (pc : C .present c ≡ true) (s : Str) (zero-in : In (s ▹ false) (C .stamp c .id))
     (one-in : In (s ▹ true) (C .stamp c .id)) where
@@ -88,8 +88,7 @@ module _ (C : Config) (q : Sound C) (c : ℕ) (pc : C .present c ≡ true) (s : 
       let u = covered-some r (C .stamp c .id) e in
       n (q .apart x c r (u .one) px pc i (u .inside) (u .passes) .0)
 
-  apart-after : (x y : ℕ) (r t : Str) → C .present x ≡ true → C .present y ≡ true → In r (D .stamp x .id) → In t (D .stamp y .id)
-      → prefix r t ≡ true → (x ≡ y) × (r ≡ t)
+  apart-after : ApartIn D
   unfolding settled
   apart-after x y r t px py i j h = by (is-where c x) (is-where c y)
     where
@@ -99,8 +98,7 @@ module _ (C : Config) (q : Sound C) (c : ℕ) (pc : C .present c ≡ true) (s : 
       by (here p e) (there m f) = absurd (from-c y r t py m (rw e at i) (rw f at j) h)
       by (there n e) (here o f) = absurd (to-c x r t px n (rw e at i) (rw f at j) h)
 
-  seen-after : (x y : ℕ) (r : Str) → C .present x ≡ true → C .present y ≡ true → In r (D .stamp x .update) → covered r (D .stamp y .id) ≡ true
-      → covered r (D .stamp y .update) ≡ true
+  seen-after : SeenIn D
   unfolding settled
   seen-after x y r px py i h = by (is-where c x) (is-where c y)
     where

@@ -1,7 +1,7 @@
 -- What a table holds after a store, which slot a fork takes, what the shares of all slots come to after a store, and what a call's
 -- answer tells of its tests. Assumes nothing.
-use Rattle.laws.proofs.Library.{_≡_, refl, sym, ap, _∙_, Bool, true, false, not, _&&_, List, [], _∷_, inl, inr, ℕ, zero, suc, _+_, _≤_, _<_, sub-zero}
-use Rattle.laws.proofs.Library.{arith, eqb, leb, length, getD, set, replicate, length-set, getD-set-same, getD-set-other, leb-false, lt-leb}
+use Rattle.laws.proofs.Library.{_≡_, refl, sym, ap, _∙_, Bool, true, false, not, _&&_, List, [], _∷_, inl, inr, ℕ, zero, suc, _+_, _≤_, _<_, sub-zero, arith}
+use Rattle.laws.proofs.Library.{eqb, leb, length, getD, set, replicate, length-set, getD-set-same, getD-set-other, leb-false, lt-leb}
 use Rattle.rules.specs.Limits.{Limits}
 use Rattle.rules.specs.Strings.{share, whole}
 use Rattle.rules.specs.Stamps.{Stamp, start, lawful, join, sumShares}

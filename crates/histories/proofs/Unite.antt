@@ -1,7 +1,7 @@
 -- The unreduced join of two copies keeps a configuration sound: events and what names cover both become unions, so the slot that is left
 -- reads as the two slots of before. Assumes nothing.
 use Rattle.laws.proofs.Library.{_≡_, refl, sym, ap, _∙_, true, false, List, [], _∷_, _⊎_, inl, inr, ⊎-elim, ℕ, eqb}
-use Rattle.rules.specs.Strings.{Str, prefix}
+use Rattle.rules.specs.Strings.{Str}
 use Rattle.rules.specs.Names.{Name, covered, union}
 use Rattle.rules.specs.Stamps.{Stamp, unite}
 use Rattle.laws.proofs.Tests.{no, or-left, or-right, In, in-left, in-right, in-append}
@@ -10,7 +10,7 @@ use Rattle.laws.proofs.Union.{union-top, covered-union}
 use Rattle.laws.proofs.Steps.{Proper}
 use Rattle.laws.proofs.Lawful.{unite-proper}
 use Rattle.histories.specs.Configurations.{Among, Config, Sound, put, united}
-use Rattle.histories.proofs.Config.{Where, here, there, is-where, Reads, in-one, covered-on, reads-nonempty, reads-fresh, reads-known, reads-shown}
+use Rattle.histories.proofs.Config.{Where, here, there, is-where, ApartIn, SeenIn, Reads, in-one, covered-on, reads-sound}
 
 in-two : {A : Type 0} (x y z : A) → In z (x ∷ y ∷ []) → (z ≡ x) ⊎ (z ≡ y)
 in-two x y z i = ⊎-elim (λ e. inl e) (λ h. inr (in-one y z h)) i
@@ -118,16 +118,14 @@ module _ (C : Config) (q : Sound C) (a b : ℕ) (pa : C .present a ≡ true) (pb
     | other o c k ↦ rw c (q .proper x o)
   ]
 
-  apart-after : (x y : ℕ) (s t : Str) → D .present x ≡ true → D .present y ≡ true → In s (D .stamp x .id) → In t (D .stamp y .id)
-      → prefix s t ≡ true → (x ≡ y) × (s ≡ t)
+  apart-after : ApartIn D
   apart-after x y s t px py i j e =
       let f = ids-back x s px i in
       let g = ids-back y t py j in
       let z = q .apart (f .slot) (g .slot) s t (slots x (f .slot) px (f .inside)) (slots y (g .slot) py (g .inside)) (f .holds) (g .holds) e in
       (sym (owner x (f .slot) px (f .inside)) ∙ ap new (z .0) ∙ owner y (g .slot) py (g .inside), z .1)
 
-  seen-after : (x y : ℕ) (r : Str) → D .present x ≡ true → D .present y ≡ true → In r (D .stamp x .update) → covered r (D .stamp y .id) ≡ true
-      → covered r (D .stamp y .update) ≡ true
+  seen-after : SeenIn D
   seen-after x y r px py i h =
       let f = reads .updateBack x r px i in
       let t = covered-some r (D .stamp y .id) h in
@@ -137,12 +135,4 @@ module _ (C : Config) (q : Sound C) (a b : ℕ) (pa : C .present a ≡ true) (pb
       (some-covered r (C .stamp (g .slot) .id) (t .one) (g .holds) (t .passes)))
 
   pub unite-sound : Sound (united a b C)
-  unite-sound = record {
-    proper = proper-after;
-    nonempty = reads-nonempty C D old reads q;
-    apart = apart-after;
-    seen = seen-after;
-    fresh = reads-fresh C D old reads q;
-    known = reads-known C D old reads q;
-    shown = reads-shown C D old reads q;
-  }
+  unite-sound = reads-sound C D old reads q proper-after apart-after seen-after

@@ -8,7 +8,7 @@ use Rattle.laws.proofs.Tests.{In}
 use Rattle.laws.proofs.Below.{covered-some, in-covered, covered-below, below-each, below-refl}
 use Rattle.laws.proofs.Steps.{Proper}
 use Rattle.histories.specs.Configurations.{AllPresent, Config, Sound, Under, Within, updated}
-use Rattle.histories.proofs.Config.{here, there, is-where, among}
+use Rattle.histories.proofs.Config.{here, there, is-where, among, SeenIn}
 
 module _ (C : Config) (q : Sound C) (a : ℕ) (pa : C .present a ≡ true) where
   abbrev D : Config
@@ -72,8 +72,7 @@ module _ (C : Config) (q : Sound C) (a : ℕ) (pa : C .present a ≡ true) where
     | there n e ↦ rw e (q .proper x px)
   ]
 
-  seen-after : (x y : ℕ) (r : Str) → C .present x ≡ true → C .present y ≡ true → In r (D .stamp x .update) → covered r (D .stamp y .id) ≡ true
-      → covered r (D .stamp y .update) ≡ true
+  seen-after : SeenIn D
   unfolding update
   seen-after x y r px py i h =
       let old : covered r (C .stamp y .id) ≡ true = rw (same-id y) at h in
