@@ -1,8 +1,7 @@
 -- Numbers and their bits: a field of any width says the number's low bits, and bits are the field of the number that they say.
 -- Assumes nothing.
-use Rattle.laws.proofs.Library.{_≡_, refl, sym, ap, ap₂, _∙_, Bool, true, false, List, [], _∷_, _++_, ℕ, zero, suc, _+_, _*_, _/_, _%_, _^_}
-use Rattle.laws.proofs.Library.{_≤_, _<_, pow-suc, mul-assoc, mul-comm, add-mul, mod-eq-of-lt, mul-le-mul-right, arith, eqb, mod-pow-add, high}
-use Rattle.laws.proofs.Library.{length, replicate}
+use Rattle.laws.proofs.Library.{_≡_, refl, sym, ap, ap₂, _∙_, Bool, true, false, List, [], _∷_, _++_, ℕ, zero, suc, _+_, _*_, _/_, _%_, _^_, _<_}
+use Rattle.laws.proofs.Library.{pow-suc, mod-eq-of-lt, arith, eqb, mod-pow-add, high, length, replicate}
 use Rattle.rules.specs.Strings.{digit, field, valueFrom, value}
 
 pub field-length : (w a : ℕ) → length (field w a) ≡ w
@@ -16,36 +15,17 @@ digit-eqb zero h = refl
 digit-eqb (suc zero) h = refl
 digit-eqb (suc (suc x)) h = absurd (omega arith)
 
-pub digit-lt : (x : Bool) → digit x < 2
-digit-lt true = omega arith
-digit-lt false = omega arith
-
-pub value-snoc : (a : ℕ) (s : List Bool) (x : Bool) → valueFrom a (s ++ (x ∷ [])) ≡ valueFrom a s * 2 + digit x
-unfolding valueFrom
-value-snoc a [] x = refl
-value-snoc a (y ∷ s) x = value-snoc (a * 2 + digit y) s x
-
 pub value-append : (a : ℕ) (s t : List Bool) → valueFrom a (s ++ t) ≡ valueFrom (valueFrom a s) t
 unfolding valueFrom
 value-append a [] t = refl
 value-append a (x ∷ s) t = value-append (a * 2 + digit x) s t
 
-value-from-lt : (a : ℕ) (s : List Bool) → valueFrom a s < (a + 1) * 2 ^ length s
+pub value-snoc : (a : ℕ) (s : List Bool) (x : Bool) → valueFrom a (s ++ (x ∷ [])) ≡ valueFrom a s * 2 + digit x
 unfolding valueFrom
-value-from-lt a [] = omega arith
-value-from-lt a (x ∷ s) =
-    let h : (a * 2 + digit x + 1) * 2 ^ length s ≤ ((a + 1) * 2) * 2 ^ length s = mul-le-mul-right (2 ^ length s) (omega (arith, digit-lt x)) in
-    let e : (a + 1) * 2 ^ suc (length s) ≡ ((a + 1) * 2) * 2 ^ length s = ap (λ (n : ℕ). (a + 1) * n) (pow-suc 2 (length s) ∙ omega arith) ∙ sym (mul-assoc (a + 1) 2 (2 ^ length s)) in
-    omega (arith, value-from-lt (a * 2 + digit x) s)
-
-pub value-lt : (s : List Bool) → value s < 2 ^ length s
-value-lt s = omega (arith, value-from-lt 0 s)
+value-snoc a s x = value-append a s (x ∷ [])
 
 spread : (a t m p : ℕ) → (a * 2 + t) * p + m ≡ a * (p * 2) + (t * p + m)
-spread a t m p =
-    let e : (a * 2 + t) * p ≡ a * 2 * p + t * p = add-mul (a * 2) t p in
-    let f : a * 2 * p ≡ a * (p * 2) = mul-assoc a 2 p ∙ ap (λ (n : ℕ). a * n) (mul-comm 2 p) in
-    omega arith
+spread a t m p = omega arith
 
 value-from-field : (a w v : ℕ) → valueFrom a (field w v) ≡ a * 2 ^ w + v % 2 ^ w
 unfolding valueFrom field
@@ -71,6 +51,12 @@ value-shift a (x ∷ s) =
     value-shift (a * 2 + digit x) s
     ∙ spread a (digit x) (value s) (2 ^ length s)
     ∙ ap₂ (λ (m n : ℕ). a * m + n) (sym (pow-suc 2 (length s))) (sym (value-shift (digit x) s) ∙ ap (λ (n : ℕ). valueFrom n s) (let e : digit x ≡ 0 * 2 + digit x = omega arith in e))
+
+pub value-lt : (s : List Bool) → value s < 2 ^ length s
+unfolding valueFrom
+value-lt [] = omega arith
+value-lt (true ∷ s) = omega (arith, value-shift 1 s, value-lt s, pow-suc 2 (length s))
+value-lt (false ∷ s) = omega (arith, value-lt s, pow-suc 2 (length s))
 
 odd-digit : (a : ℕ) (x : Bool) → eqb ((a * 2 + digit x) % 2) 1 ≡ x
 odd-digit a true = ap (λ (n : ℕ). eqb n 1) (let e : (a * 2 + 1) % 2 ≡ 1 = omega arith in e)

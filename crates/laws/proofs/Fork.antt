@@ -1,7 +1,7 @@
 -- A name with one digit appended to each string: as many strings, still in rising order, no two of them siblings since all end alike;
 -- and it covers what the name covers and its own strings besides. Assumes nothing.
-use Rattle.laws.proofs.Library.{_≡_, refl, sym, ap, _∙_, subst, Bool, true, false, [], _∷_, dropLast, _⊎_, inl, inr, ⊎-elim, none, ℕ, suc, _≤_}
-use Rattle.laws.proofs.Library.{arith, eqb, leb, length, length-map, leb-true, eqb-false, le-leb}
+use Rattle.laws.proofs.Library.{_≡_, refl, sym, ap, _∙_, subst, Bool, true, false, [], _∷_, _⊎_, inl, inr, ⊎-elim, none, ℕ, suc, _≤_, arith, eqb, leb}
+use Rattle.laws.proofs.Library.{length, drop, drop-at, length-map, leb-true, eqb-false, le-leb}
 use Rattle.rules.specs.Strings.{Str, prefix, less, _▹_}
 use Rattle.rules.specs.Names.{Name, any, all, rising, covered, below}
 use Rattle.rules.specs.Stamps.{pair, append}
@@ -9,27 +9,19 @@ use Rattle.laws.proofs.Tests.{no, In, any-none, all-each, each-all}
 use Rattle.laws.proofs.Prefix.{prefix-trans, prefix-grown, prefix-of-grown}
 use Rattle.laws.proofs.Rising.{rising-head, rising-tail, rising-cons}
 use Rattle.laws.proofs.Below.{covered-some, some-covered, below-each, each-below}
-use Rattle.laws.proofs.Settle.{drop-grown, none-pair}
+use Rattle.laws.proofs.Settle.{none-pair}
+use Rattle.laws.proofs.Steps.{grown-same}
 use Rattle.laws.proofs.Shares.{grown-length}
 
 -- ---- one string
 
--- the last digit of a string, or the one given
-final : Bool → Str → Bool
-final a [] = a
-final a (b ∷ s) = final b s
-
-final-grown : (a : Bool) (s : Str) (d : Bool) → final a (s ▹ d) ≡ d
-unfolding final
-final-grown a [] d = refl
-final-grown a (b ∷ s) d = final-grown b s d
-
 -- a string with a digit more tells both
 pub grown-is : (s t : Str) (a b : Bool) → s ▹ a ≡ t ▹ b → (s ≡ t) × (a ≡ b)
-grown-is s t a b e = (
-  sym (drop-grown s a) ∙ ap dropLast e ∙ drop-grown t b,
-  sym (final-grown a s a) ∙ ap (final a) e ∙ final-grown a t b,
-)
+grown-is s t a b e =
+    let p = grown-same s t a b e in
+    let q : a ∷ [] ≡ b ∷ [] =
+    sym (drop-at s (a ∷ []) (length s) refl) ∙ ap (drop (length s)) e ∙ drop-at t (b ∷ []) (length s) (ap length (sym p)) in
+    (p, cc)
 
 less-grown : (s t : Str) (d : Bool) → less s t ≡ true → less (s ▹ d) (t ▹ d) ≡ true
 unfolding less

@@ -1,7 +1,7 @@
 -- Lawful stamps stay lawful: the first one is, and update, fork and join make them of lawful ones, where the limits do not refuse.
 -- Since u is below i, the limits are asked of i alone: u has no more strings than i, and none longer. Assumes nothing.
-use Rattle.laws.proofs.Library.{_≡_, refl, ap, Bool, true, false, _&&_, [], _∷_, inl, ⊎-elim, Option, none, some, ℕ, _≤_, le-trans, arith, leb}
-use Rattle.laws.proofs.Library.{length, leb-true, le-leb, ltb-false}
+use Rattle.laws.proofs.Library.{_≡_, refl, ap, Bool, true, false, _&&_, [], _∷_, inl, ⊎-elim, Option, none, some, ℕ, _≤_, le-trans, arith, leb, length}
+use Rattle.laws.proofs.Library.{leb-true, le-leb, ltb-false}
 use Rattle.rules.specs.Limits.{Limits}
 use Rattle.rules.specs.Strings.{Str, same}
 use Rattle.rules.specs.Names.{Name, any, all, member, rising, isName, below, union}

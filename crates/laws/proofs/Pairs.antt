@@ -1,6 +1,6 @@
 -- In rising order x0 and x1 stand side by side: so `pair` finds what a walk over neighbours finds first. Assumes nothing.
-use Rattle.laws.proofs.Library.{_≡_, refl, sym, ap, ap₂, _∙_, subst, Bool, true, false, cond, [], _∷_, dropLast, inl, inr, ⊎-elim, Option}
-use Rattle.laws.proofs.Library.{none, some, ℕ, suc, _≤_, arith, eqb, eqb·suc-suc, length, eqb-true}
+use Rattle.laws.proofs.Library.{_≡_, refl, sym, ap, ap₂, _∙_, subst, Bool, true, false, cond, [], _∷_, dropLast, inl, inr, ⊎-elim, Option, none, some}
+use Rattle.laws.proofs.Library.{ℕ, suc, _≤_, arith, eqb, eqb·suc-suc, length, eqb-true}
 use Rattle.rules.specs.Strings.{Str, prefix, less, common, siblings, _▹_}
 use Rattle.rules.specs.Names.{Name, rising}
 use Rattle.rules.specs.Stamps.{pairAmong, pair}

@@ -1,7 +1,7 @@
 -- Prefix is an order on strings: a prefix is the first part of that length, and of two first parts of one string the shorter is one of the
 -- longer. Assumes nothing.
-use Rattle.laws.proofs.Library.{_≡_, refl, sym, ap, ap₂, _∙_, Bool, Bool·beq, true, false, [], _∷_, _++_, append-nil, append-snoc, _⊎_, inl}
-use Rattle.laws.proofs.Library.{inr, ⊎-elim, _≤_, arith, length, drop, length-append, length-take, take, take-all, take-append-drop, take-take}
+use Rattle.laws.proofs.Library.{_≡_, refl, sym, ap, ap₂, _∙_, Bool, Bool·beq, true, false, [], _∷_, _++_, append-nil, append-snoc, _⊎_, inl, inr}
+use Rattle.laws.proofs.Library.{⊎-elim, _≤_, arith, length, drop, length-append, length-take, take, take-all, take-append-drop, take-take}
 use Rattle.rules.specs.Strings.{Str, prefix, same, _▹_}
 use Rattle.laws.proofs.Tests.{no, clash, not-true, and-left, and-right, at-most}
 

@@ -1,6 +1,6 @@
 -- One step of reduction: what `settle` leaves in a name, and what `pair` finds. Assumes nothing.
-use Rattle.laws.proofs.Library.{_≡_, refl, sym, ap, _∙_, subst, Bool, true, false, not, _&&_, _||_, List, [], _∷_, dropLast, _⊎_, inl, inr}
-use Rattle.laws.proofs.Library.{⊎-elim, Option, Option·none-ne-some, Option·some-injective, none, some}
+use Rattle.laws.proofs.Library.{_≡_, refl, sym, ap, _∙_, subst, Bool, true, false, not, _&&_, _||_, List, [], _∷_, dropLast, _⊎_, inl, inr, ⊎-elim}
+use Rattle.laws.proofs.Library.{Option, Option·none-ne-some, Option·some-injective, none, some}
 use Rattle.rules.specs.Strings.{Str, same, _▹_}
 use Rattle.rules.specs.Names.{Name, keep, member, insert}
 use Rattle.rules.specs.Stamps.{pairAmong, pair, settle}

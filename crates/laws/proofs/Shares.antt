@@ -1,7 +1,7 @@
 -- The share of a string is halved by one digit more. So a fork splits a name's share in two halves, a step of reduction leaves it
 -- as it is, and the shares of names that are apart add up in their union. Assumes nothing.
-use Rattle.laws.proofs.Library.{_≡_, refl, ap, _∙_, Bool, true, false, [], _∷_, _++_, inl, inr, ⊎-elim, ℕ, suc, _+_, _-_, _≤_, _<_, pow-suc}
-use Rattle.laws.proofs.Library.{arith, length, length-append}
+use Rattle.laws.proofs.Library.{_≡_, refl, ap, _∙_, Bool, true, false, [], _∷_, _++_, inl, inr, ⊎-elim, ℕ, suc, _+_, _-_, _≤_, _<_, pow-suc, arith}
+use Rattle.laws.proofs.Library.{length, length-append}
 use Rattle.rules.specs.Strings.{Str, prefix, _▹_, share}
 use Rattle.rules.specs.Names.{Name, rising, union}
 use Rattle.rules.specs.Stamps.{Stamp, settle, settled, reduce, append, sumShares}

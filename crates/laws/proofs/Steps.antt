@@ -1,7 +1,7 @@
 -- Steps of reduction at a stamp whose id holds s0 and s1: each keeps a proper stamp proper and leaves one string less in the id,
 -- and two different steps commute. What was covered stays covered, except s0 and s1. Assumes nothing.
-use Rattle.laws.proofs.Library.{_≡_, refl, sym, ap, _∙_, subst, Bool, true, false, [], _∷_, dropLast, _⊎_, inl, inr, ⊎-elim, _↔_, ℕ, suc, _+_}
-use Rattle.laws.proofs.Library.{_≤_, arith, length}
+use Rattle.laws.proofs.Library.{_≡_, refl, sym, ap, _∙_, subst, Bool, true, false, [], _∷_, dropLast, _⊎_, inl, inr, ⊎-elim, _↔_, ℕ, suc, _+_, _≤_}
+use Rattle.laws.proofs.Library.{arith, length}
 use Rattle.rules.specs.Strings.{Str, prefix, same, _▹_}
 use Rattle.rules.specs.Names.{Name, all, rising, covered, below, insert}
 use Rattle.rules.specs.Stamps.{Stamp, settle, settled}
@@ -24,7 +24,7 @@ pub record Proper (x : Stamp) : Type 0 where
 grown-apart : (s : Str) (d : Bool) → s ≡ s ▹ d → ⊥
 grown-apart s d e = clash (subst (λ (x : Str). prefix x s ≡ true) e (prefix-refl s)) (grown-not-prefix s d)
 
-grown-same : (s t : Str) (d e : Bool) → s ▹ d ≡ t ▹ e → s ≡ t
+pub grown-same : (s t : Str) (d e : Bool) → s ▹ d ≡ t ▹ e → s ≡ t
 grown-same s t d e p = sym (drop-grown s d) ∙ ap dropLast p ∙ drop-grown t e
 
 -- what does not come from t is neither t0 nor t1
@@ -108,9 +108,12 @@ module _ (s : Str) (n i : Name) (n-rising : rising n ≡ true) (i-rising : risin
           (λ t k. ⊎-elim (λ l. inr (apart h t (l .0) (l .1))) (λ l. inl (sym (l .0))) (settle-in s n t (rw e (in-insert s m t (inr k)))))
           r)
 
-  -- s0 and s1 are covered no longer
-  pub settle-other : (r : Str) → covered r (settle s n) ≡ true → Other s r
-  settle-other r e = (λ q. gone false zero-in (rw q at e), λ q. gone true one-in (rw q at e))
+  -- n covers what it did, except s0 and s1
+  covered-settled : (r : Str) → (covered r (settle s n) ≡ true) ↔ ((covered r n ≡ true) × Other s r)
+  covered-settled r = (
+    λ e. (settle-covered s n r e, (λ q. gone false zero-in (rw q at e), λ q. gone true one-in (rw q at e))),
+    λ h. covered-settle s n r (h .0) (h .1),
+  )
     where
       gone : (d : Bool) → In (s ▹ d) i → covered (s ▹ d) (settle s n) ≡ true → ⊥
       gone d j e =
@@ -127,17 +130,11 @@ module _ (s : Str) (x : Stamp) (ok : Proper x) (zero-in : In (s ▹ false) (x .i
 
   -- the id covers what it did, except s0 and s1
   pub covered-settle-id : (r : Str) → (covered r (settle s (x .id)) ≡ true) ↔ ((covered r (x .id) ≡ true) × Other s r)
-  covered-settle-id r = (
-    λ e. (settle-covered s (x .id) r e, settle-other s (x .id) (x .id) (ok .idRising) (ok .idRising) (below-refl (x .id)) zero-in one-in r e),
-    λ h. covered-settle s (x .id) r (h .0) (h .1),
-  )
+  covered-settle-id = covered-settled s (x .id) (x .id) (ok .idRising) (ok .idRising) (below-refl (x .id)) zero-in one-in
 
   -- and so does the update
   pub covered-settle-update : (r : Str) → (covered r (settle s (x .update)) ≡ true) ↔ ((covered r (x .update) ≡ true) × Other s r)
-  covered-settle-update r = (
-    λ e. (settle-covered s (x .update) r e, settle-other s (x .update) (x .id) (ok .updateRising) (ok .idRising) (ok .belowId) zero-in one-in r e),
-    λ h. covered-settle s (x .update) r (h .0) (h .1),
-  )
+  covered-settle-update = covered-settled s (x .update) (x .id) (ok .updateRising) (ok .idRising) (ok .belowId) zero-in one-in
 
   pub settled-proper : Proper (settled s x)
   unfolding settled

@@ -1,7 +1,7 @@
 -- The stored shape: a record that has it tells its stamp, each lawful stamp has one, and none of them is all zeros.
 -- A word tells its string, and a record is the same as another when its numbers are. Assumes nothing.
-use Rattle.laws.proofs.Library.{_≡_, refl, sym, ap, ap₂, _∙_, subst, Bool, true, false, not, List, [], _∷_, map, inl, inr, ℕ, _-_, _≤_, arith}
-use Rattle.laws.proofs.Library.{eqb-true, eq-eqb, eqb, length, replicate, length-map, take-at}
+use Rattle.laws.proofs.Library.{_≡_, refl, sym, ap, ap₂, _∙_, subst, true, false, not, List, [], _∷_, map, inl, inr, ℕ, _-_, _≤_, arith, eqb-true}
+use Rattle.laws.proofs.Library.{eq-eqb, eqb, length, replicate, length-map, take-at}
 use Rattle.rules.specs.Limits.{Limits}
 use Rattle.rules.specs.Strings.{Str, wordOf, strOf}
 use Rattle.rules.specs.Names.{Name, isName}
@@ -9,7 +9,7 @@ use Rattle.rules.specs.Stamps.{Stamp, lawful}
 use Rattle.rules.specs.Stored.{wordsOf, stored, strsIn, held, sameNumbers, sameWords, sameRecord, isStoredName, isStored, unlawful, blank, absent}
 use Rattle.rules.specs.declared.Words.{Words}
 use Rattle.rules.specs.declared.Record.{Record}
-use Rattle.laws.proofs.Tests.{no, not-true, and-left, and-right, and-both, In}
+use Rattle.laws.proofs.Tests.{no, clash, is-not, not-false, not-true, and-left, and-right, and-both, In}
 use Rattle.laws.proofs.Words.{str-word}
 use Rattle.laws.proofs.Lawful.{Short, lawful-parts}
 
@@ -102,11 +102,7 @@ module _ (L : Limits) (r : Record) (h : isStored L r ≡ true) where
 
 pub lawful-stored : (L : Limits) (r : Record) → unlawful L r ≡ false → isStored L r ≡ true
 unfolding unlawful
-lawful-stored L r e = by (isStored L r) e
-  where
-    by : (b : Bool) → not b ≡ false → b ≡ true
-    by true e = refl
-    by false e = absurd (no (sym e))
+lawful-stored L r e = not-false (λ p. clash (is-not p) e)
 
 pub stored-not-unlawful : (L : Limits) (r : Record) → isStored L r ≡ true → unlawful L r ≡ false
 unfolding unlawful

@@ -1,6 +1,6 @@
 -- Tests and what they say: `any`, `all`, `keep` and `member` as statements about the elements. Assumes nothing.
-use Rattle.laws.proofs.Library.{_≡_, refl, sym, _∙_, subst, Bool, true, false, not, _&&_, _||_, or-true, List, [], _∷_, _++_, _⊎_, inl, inr}
-use Rattle.laws.proofs.Library.{⊎-elim, ℕ, _≤_, _<_, arith, length, leb, leb-true, leb-false}
+use Rattle.laws.proofs.Library.{_≡_, refl, sym, _∙_, subst, Bool, true, false, not, _&&_, _||_, or-true, List, [], _∷_, _++_, _⊎_, inl, inr, ⊎-elim, ℕ}
+use Rattle.laws.proofs.Library.{_≤_, _<_, arith, length, leb, leb-true, leb-false}
 use Rattle.rules.specs.Names.{any, all, keep}
 
 pub no : false ≡ true → ⊥

@@ -1,7 +1,7 @@
 -- The union of two names: rising, with exactly the strings of both that no other properly extends; and the least upper bound.
 -- Assumes nothing.
-use Rattle.laws.proofs.Library.{_≡_, refl, ap, _∙_, Bool, true, not, _&&_, _||_, List, [], _∷_, _++_, inl, inr, ⊎-elim, ℕ, zero, suc, _+_, _≤_}
-use Rattle.laws.proofs.Library.{_<_, arith, lt-of-not-le, length}
+use Rattle.laws.proofs.Library.{_≡_, refl, ap, _∙_, Bool, true, not, _&&_, _||_, List, [], _∷_, _++_, inl, inr, ⊎-elim, ℕ, zero, suc, _+_, _≤_, _<_}
+use Rattle.laws.proofs.Library.{arith, lt-of-not-le, length}
 use Rattle.rules.specs.Strings.{Str, prefix, same}
 use Rattle.rules.specs.Names.{Name, any, keep, rising, covered, below, outgrown, union, unions}
 use Rattle.laws.proofs.Tests.{clash, decide, not-true, not-false, iff, and-left, and-right, and-both, or-cases, or-left, or-right, not-is, is-not, In, in-left, in-right, in-append, Some, any-some, some-any, none-any, keep-in, in-keep}

@@ -1,11 +1,11 @@
 -- Words that hold strings: the leading zeros of an exclusive-or are the leading digits shared, words stand in the order of their strings,
 -- and a word tells its string. What is said of any width goes from the highest digit down, by induction. Assumes nothing.
-use Rattle.laws.proofs.Library.{_≡_, refl, sym, ap, ap₂, _∙_, Bool, true, false, cond, _&&_, Bool·beq, List, [], _∷_, _++_, inl, inr}
-use Rattle.laws.proofs.Library.{and-false, ℕ, zero, suc, _+_, _*_, _-_, _/_, _%_, _^_, _≤_, _<_, min, mod-lt, pow-suc, le-of-suc-le-suc}
-use Rattle.laws.proofs.Library.{not-suc-le-zero, div-lt-iff-lt-mul, mod-eq-of-lt, mul-assoc, mul-comm, add-mul, mul-le-mul-right, mul-mod-left}
-use Rattle.laws.proofs.Library.{le-mul-of-pos-right, arith, ltb-true, lt-ltb, le-ltb, leb-true, eqb-true, eq-eqb, eqb, leb, ltb, leb·zero}
-use Rattle.laws.proofs.Library.{leb·suc-zero, leb·suc-suc, length, take, replicate, length-append, length-replicate, split, pow-pos, pow-add}
-use Rattle.laws.proofs.Library.{pow-mono, shr-shr, shl-shr, high, low, mod-pow-add, take-at, length-take-le}
+use Rattle.laws.proofs.Library.{_≡_, refl, sym, ap, ap₂, _∙_, Bool, true, false, cond, _&&_, Bool·beq, List, [], _∷_, _++_, inl, inr, and-false, ℕ}
+use Rattle.laws.proofs.Library.{zero, suc, _+_, _*_, _-_, _/_, _%_, _^_, _≤_, _<_, min, mod-lt, pow-suc, le-of-suc-le-suc, not-suc-le-zero}
+use Rattle.laws.proofs.Library.{div-lt-iff-lt-mul, mod-eq-of-lt, add-mul, mul-le-mul-right, mul-mod-left, le-mul-of-pos-right, arith, ltb-true, lt-ltb}
+use Rattle.laws.proofs.Library.{le-ltb, leb-true, eqb-true, eq-eqb, eqb, leb, ltb, leb·zero, leb·suc-zero, leb·suc-suc, length, take, replicate}
+use Rattle.laws.proofs.Library.{length-append, length-replicate, split, pow-pos, pow-add, pow-mono, shr-shr, shl-shr, high, low, mod-pow-add, take-at}
+use Rattle.laws.proofs.Library.{length-take-le}
 use lib.Bits.{bitXor, xor-block, xor-lt}
 use lib.Count.{leadingZeros, leading-length, leading-unique}
 use Rattle.rules.specs.Strings.{Str, prefix, less, common, siblings, _▹_, digit, field, valueFrom, value, aligned, wordOf, strOf, isWord}
@@ -185,11 +185,8 @@ str-length w = length-take-le (w % 64) (field 64 w) (omega (arith, field-length 
 pub word-value : (s : Str) → wordOf s ≡ value s * 2 ^ (64 - length s) + length s
 unfolding wordOf aligned
 word-value s =
-    ap (λ (n : ℕ). n + length s)
-    (value-append 0 s (replicate (64 - length s) false)
-    ∙ value-shift (value s) (replicate (64 - length s) false)
-    ∙ ap₂ (λ (m n : ℕ). value s * 2 ^ m + n) (length-replicate (64 - length s) false) (value-zeros (64 - length s))
-    ∙ omega arith)
+    let z = replicate (64 - length s) false in
+    rw (value-append 0 s z, value-shift (value s) z, length-replicate (64 - length s) false, value-zeros (64 - length s)) (omega arith)
 
 -- a string's digits leave the six low bits free
 room : (n : ℕ) → n ≤ 58 → 64 ≤ 2 ^ (64 - n)
@@ -209,9 +206,7 @@ word-lt s h = omega (arith, word-value s, room (length s) h, moved-lt (value s) 
 
 -- what is moved to the top is a multiple of 64
 over : (v n : ℕ) → n ≤ 58 → v * 2 ^ (64 - n) ≡ v * 2 ^ (58 - n) * 64
-over v n h =
-    ap (λ (k : ℕ). v * 2 ^ k) (let e : 64 - n ≡ 58 - n + 6 = omega arith in e)
-    ∙ ap (λ (k : ℕ). v * k) (pow-add 2 (58 - n) 6) ∙ sym (mul-assoc v (2 ^ (58 - n)) 64)
+over v n h = let e : 64 - n ≡ 58 - n + 6 = omega arith in rw (e, pow-add 2 (58 - n) 6) (omega arith)
 
 pub word-length : (s : Str) → length s ≤ 58 → wordOf s % 64 ≡ length s
 word-length s h = omega (arith, word-value s, over (value s) (length s) h)
@@ -273,11 +268,9 @@ is-word most w hm hw = elim (decide (leb (w % 64) most)) [
 
 grown : (v d n : ℕ) → n < 64 → (v * 2 + d) * 2 ^ (64 - (n + 1)) + (n + 1) ≡ v * 2 ^ (64 - n) + n + 1 + d * 2 ^ (63 - n)
 grown v d n h =
-    let p : 2 ^ (64 - n) ≡ 2 * 2 ^ (63 - n) =
-    ap (λ (k : ℕ). 2 ^ k) (let e : 64 - n ≡ suc (63 - n) = omega arith in e) ∙ pow-suc 2 (63 - n) ∙ mul-comm (2 ^ (63 - n)) 2 in
-    let f : v * 2 * 2 ^ (63 - n) ≡ v * 2 ^ (64 - n) = mul-assoc v 2 (2 ^ (63 - n)) ∙ ap (λ (k : ℕ). v * k) (sym p) in
-    ap (λ (k : ℕ). (v * 2 + d) * 2 ^ k + (n + 1)) (let e : 64 - (n + 1) ≡ 63 - n = omega arith in e)
-    ∙ omega (arith, add-mul (v * 2) d (2 ^ (63 - n)))
+    let e : 64 - (n + 1) ≡ 63 - n = omega arith in
+    let f : 64 - n ≡ suc (63 - n) = omega arith in
+    rw (e, f, pow-suc 2 (63 - n)) (omega arith)
 
 -- a digit more: the length rises by one, and the digit comes behind the others
 pub word-grown : (s : Str) (d : Bool) → length s < 58 → wordOf (s ▹ d) ≡ wordOf s + 1 + digit d * 2 ^ (63 - length s)
