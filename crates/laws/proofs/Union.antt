@@ -1,7 +1,7 @@
 -- The union of two names: rising, with exactly the strings of both that no other properly extends; and the least upper bound.
 -- Assumes nothing.
-use Rattle.laws.proofs.Library.{_≡_, refl, ap, _∙_, Bool, true, not, _&&_, _||_, List, [], _∷_, _++_, inl, inr, ⊎-elim, ℕ, zero, suc, _+_, _≤_, _<_}
-use Rattle.laws.proofs.Library.{arith, lt-of-not-le, length}
+use Rattle.laws.proofs.Library.{_≡_, refl, ap, _∙_, Bool, true, not, _&&_, _||_, map, List, [], _∷_, _++_, inl, inr, ⊎-elim, ℕ, zero, suc, _+_, _≤_}
+use Rattle.laws.proofs.Library.{_<_, arith, lt-of-not-le, length}
 use Rattle.rules.specs.Strings.{Str, prefix, same}
 use Rattle.rules.specs.Names.{Name, any, keep, rising, covered, below, outgrown, union, unions}
 use Rattle.laws.proofs.Tests.{clash, decide, not-true, not-false, iff, and-left, and-right, and-both, or-cases, or-left, or-right, not-is, is-not, In, in-left, in-right, in-append, Some, any-some, some-any, none-any, keep-in, in-keep}
@@ -116,7 +116,7 @@ union-mono a b m n p q =
 
 -- ---- the union of any number of names
 
-pub covered-unions : (s : Str) (ms : List Name) → covered s (unions ms) ≡ any (covered s) ms
+pub covered-unions : {A : Type 0} (f : A → Name) (s : Str) (l : List A) → covered s (unions (map f l)) ≡ any (λ x. covered s (f x)) l
 unfolding unions any covered
-covered-unions s [] = refl
-covered-unions s (m ∷ ms) = covered-union s m (unions ms) ∙ ap (λ (b : Bool). covered s m || b) (covered-unions s ms)
+covered-unions f s [] = refl
+covered-unions f s (x ∷ l) = covered-union s (f x) (unions (map f l)) ∙ ap (λ (b : Bool). covered s (f x) || b) (covered-unions f s l)
