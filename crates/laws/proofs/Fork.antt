@@ -2,12 +2,12 @@
 -- and it covers what the name covers and its own strings besides. Assumes nothing.
 use Rattle.laws.proofs.Library.{_≡_, refl, sym, ap, _∙_, subst, Bool, true, false, [], _∷_, _⊎_, inl, inr, ⊎-elim, none, ℕ, suc, _≤_, arith, eqb, leb}
 use Rattle.laws.proofs.Library.{length, drop, drop-at, length-map, leb-true, eqb-false, le-leb}
-use Rattle.rules.specs.Strings.{Str, prefix, less, _▹_}
+use Rattle.rules.specs.Strings.{Str, prefix, _▹_}
 use Rattle.rules.specs.Names.{Name, any, all, rising, covered, below}
 use Rattle.rules.specs.Stamps.{pair, append}
 use Rattle.laws.proofs.Tests.{no, In, any-none, all-each, each-all}
 use Rattle.laws.proofs.Prefix.{prefix-trans, prefix-grown, prefix-of-grown}
-use Rattle.laws.proofs.Rising.{rising-head, rising-tail, rising-cons}
+use Rattle.laws.proofs.Rising.{less-append, rising-head, rising-tail, rising-cons}
 use Rattle.laws.proofs.Below.{covered-some, some-covered, below-each, each-below}
 use Rattle.laws.proofs.Settle.{none-pair}
 use Rattle.laws.proofs.Steps.{grown-same}
@@ -22,15 +22,6 @@ grown-is s t a b e =
     let q : a ∷ [] ≡ b ∷ [] =
     sym (drop-at s (a ∷ []) (length s) refl) ∙ ap (drop (length s)) e ∙ drop-at t (b ∷ []) (length s) (ap length (sym p)) in
     (p, cc)
-
-less-grown : (s t : Str) (d : Bool) → less s t ≡ true → less (s ▹ d) (t ▹ d) ≡ true
-unfolding less
-less-grown [] t d p = absurd (no p)
-less-grown (a ∷ s) [] d p = absurd (no p)
-less-grown (true ∷ s) (true ∷ t) d p = less-grown s t d p
-less-grown (false ∷ s) (false ∷ t) d p = less-grown s t d p
-less-grown (false ∷ s) (true ∷ t) d p = refl
-less-grown (true ∷ s) (false ∷ t) d p = absurd (no p)
 
 -- ---- each string of a name
 
@@ -64,7 +55,7 @@ module _ (d : Bool) where
   append-rising (s ∷ i) h =
       rising-cons (s ▹ d) (append d i)
       (λ x j. let g = append-in i x j in
-      subst (λ (y : Str). less (s ▹ d) y ≡ true) (sym (g .grown)) (less-grown s (g .root) d (rising-head s i h (g .root) (g .inside))))
+      rw (g .grown) (less-append s (g .root) (d ∷ []) (d ∷ []) (rising-head s i h (g .root) (g .inside))))
       (append-rising i (rising-tail s i h))
 
   -- what it covers, the name covers, or it is one of its own strings

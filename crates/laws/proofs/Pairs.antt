@@ -1,6 +1,6 @@
 -- In rising order x0 and x1 stand side by side: so `pair` finds what a walk over neighbours finds first. Assumes nothing.
-use Rattle.laws.proofs.Library.{_≡_, refl, sym, ap, ap₂, _∙_, subst, Bool, true, false, cond, [], _∷_, dropLast, inl, inr, ⊎-elim, Option, none, some}
-use Rattle.laws.proofs.Library.{ℕ, suc, _≤_, arith, eqb, eqb·suc-suc, length, eqb-true}
+use Rattle.laws.proofs.Library.{_≡_, refl, sym, ap, ap₂, _∙_, subst, Bool, true, false, cond, [], _∷_, concat-eq-append, eq-nil-or-concat, dropLast}
+use Rattle.laws.proofs.Library.{inl, inr, ⊎-elim, Option, none, some, ℕ, suc, _≤_, arith, eqb, eqb·suc-suc, length, eqb-true}
 use Rattle.rules.specs.Strings.{Str, prefix, less, common, siblings, _▹_}
 use Rattle.rules.specs.Names.{Name, rising}
 use Rattle.rules.specs.Stamps.{pairAmong, pair}
@@ -71,19 +71,6 @@ none-between (false ∷ x) (true ∷ t) p q = no q
 
 -- ---- the walk
 
--- a string is empty, or has a last digit
-data End (s : Str) : Type 0 where
-  empty : s ≡ [] → End s
-  more : (x : Str) (d : Bool) → s ≡ x ▹ d → End s
-
-end : (s : Str) → End s
-end [] = empty refl
-end (a ∷ s) = by (end s)
-  where
-    by : End s → End (a ∷ s)
-    by (empty e) = more [] a (ap (λ (l : Str). a ∷ l) e)
-    by (more x d e) = more (a ∷ x) d (ap (λ (l : Str). a ∷ l) e)
-
 module _ (n : Name) (h : rising n ≡ true) where
   -- l is a part of n that has both of x0 and x1 or none
   record Part (l : Name) : Type 0 where
@@ -93,8 +80,7 @@ module _ (n : Name) (h : rising n ≡ true) where
 
   -- x is what the last digit was taken from
   both-root : (s x : Str) (d : Bool) → s ≡ x ▹ d → In (x ▹ false) n → In (x ▹ true) n → both n (dropLast s) ≡ true
-  both-root s x d e i j =
-      rw (ap dropLast e ∙ drop-grown x d) (in-both n x i j)
+  both-root s x d e i j = rw (ap dropLast e ∙ drop-grown x d) (in-both n x i j)
 
   -- s is x0, and x1 stands behind it
   record Leads (s : Str) (l : Name) : Type 0 where
@@ -105,22 +91,25 @@ module _ (n : Name) (h : rising n ≡ true) where
   -- the head of a part, where n has both: it is the left one
   head-leads : (s : Str) (l : Name) → rising (s ∷ l) ≡ true → Part (s ∷ l) → both n (dropLast s) ≡ true → Leads s l
   unfolding prefix
-  head-leads s l k p e = by (end s)
+  head-leads s l k p e = elim (eq-nil-or-concat s) [
+    | inl f ↦
+        let c = rising-antichain n h s (dropLast s ▹ false) (p .within s (inl refl)) (both-in n (dropLast s) e .0) (rw f) in
+        absurd (omega (arith, ap length (rw f at c)))
+    | inr g ↦ by (g .0) (g .1) (g .2 ∙ concat-eq-append (g .0) (g .1))
+  ]
     where
       root-in : (x : Str) (d : Bool) → s ≡ x ▹ d → In (x ▹ false) n × In (x ▹ true) n
       root-in x d f = both-in n x (subst (λ (y : Str). both n y ≡ true) (ap dropLast f ∙ drop-grown x d) e)
 
-      by : End s → Leads s l
-      by (empty f) =
-          let c = rising-antichain n h s (dropLast s ▹ false) (p .within s (inl refl)) (both-in n (dropLast s) e .0) (rw f) in
-          absurd (omega (arith, ap length (rw f at c)))
-      by (more x true f) =
+      -- its last digit is 0
+      by : (x : Str) (d : Bool) → s ≡ x ▹ d → Leads s l
+      by x true f =
           absurd
           (⊎-elim (λ g. less-irrefl (x ▹ true) (subst (λ (y : Str). less y (x ▹ true) ≡ true) (g ∙ f) (twins-less x)))
           (λ g. less-irrefl (x ▹ false)
           (less-trans (x ▹ false) (x ▹ true) (x ▹ false) (twins-less x) (subst (λ (y : Str). less y (x ▹ false) ≡ true) f (rising-head s l k (x ▹ false) g))))
           (p .left x (inl (sym f)) (root-in x true f .0)))
-      by (more x false f) = record {
+      by x false f = record {
         root = x;
         is = f;
         twin = ⊎-elim (λ g. absurd (less-irrefl (x ▹ false) (subst (λ (y : Str). less (x ▹ false) y ≡ true) (g ∙ f) (twins-less x)))) (λ g. g)

@@ -1,5 +1,5 @@
 -- Rising order: an order in which strings, none a prefix of another, have one listing. Assumes nothing.
-use Rattle.laws.proofs.Library.{_≡_, refl, sym, ap₂, _∙_, subst, true, false, List, [], _∷_, _⊎_, inl, inr, ⊎-elim}
+use Rattle.laws.proofs.Library.{_≡_, refl, sym, ap₂, _∙_, subst, true, false, List, [], _∷_, _++_, _⊎_, inl, inr, ⊎-elim}
 use Rattle.rules.specs.Strings.{Str, prefix, same, less, _▹_}
 use Rattle.rules.specs.Names.{Name, all, rising, insert, sorted}
 use Rattle.laws.proofs.Tests.{no, clash, decide, and-left, and-right, and-both, In, all-each, each-all}
@@ -40,6 +40,16 @@ less-total (true ∷ s) (true ∷ t) p q r = less-total s t p q r
 less-total (false ∷ s) (false ∷ t) p q r = less-total s t p q r
 less-total (true ∷ s) (false ∷ t) p q r = refl
 less-total (false ∷ s) (true ∷ t) p q r = absurd (no (sym r))
+
+-- what follows makes no difference
+pub less-append : (s t x y : Str) → less s t ≡ true → less (s ++ x) (t ++ y) ≡ true
+unfolding less
+less-append [] t x y p = absurd (no p)
+less-append (a ∷ s) [] x y p = absurd (no p)
+less-append (true ∷ s) (true ∷ t) x y p = less-append s t x y p
+less-append (false ∷ s) (false ∷ t) x y p = less-append s t x y p
+less-append (false ∷ s) (true ∷ t) x y p = refl
+less-append (true ∷ s) (false ∷ t) x y p = absurd (no p)
 
 -- s0 comes before s1
 pub twins-less : (s : Str) → less (s ▹ false) (s ▹ true) ≡ true

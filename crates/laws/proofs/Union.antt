@@ -14,7 +14,11 @@ pub record Top (s : Str) (l : List Str) : Type 0 where
   pub inside : In s l
   pub alone : (t : Str) → In t l → prefix s t ≡ true → s ≡ t
 
-top-kept : (l : List Str) (s : Str) → Top s l → In s (keep (λ x. not (outgrown x l)) l)
+-- the strings of l that are no proper prefix of another
+abbrev kept : List Str → List Str
+kept l = keep (λ x. not (outgrown x l)) l
+
+top-kept : (l : List Str) (s : Str) → Top s l → In s (kept l)
 unfolding outgrown
 top-kept l s p =
     in-keep (λ x. not (outgrown x l)) l s (p .inside)
@@ -22,31 +26,27 @@ top-kept l s p =
     (none-any (λ t. prefix s t && not (same s t)) l
     (λ t i. not-true (λ e. clash (is-same (p .alone t i (and-left (prefix s t) (not (same s t)) e))) (not-is (and-right (prefix s t) (not (same s t)) e))))))
 
-kept-top : (l : List Str) (s : Str) → In s (keep (λ x. not (outgrown x l)) l) → Top s l
+kept-top : (l : List Str) (s : Str) → In s (kept l) → Top s l
 unfolding outgrown
 kept-top l s i =
     let h = keep-in (λ x. not (outgrown x l)) l s i in
     record {
       inside = h .0;
-      alone = λ t j p.
-          same-is s t
-          (not-false (λ e. clash (some-any (λ x. prefix s x && not (same s x)) l t j (and-both p (is-not e))) (not-is (h .1))));
+      alone = λ t j p. same-is s t (not-false (λ e. clash (some-any (λ x. prefix s x && not (same s x)) l t j (and-both p (is-not e))) (not-is (h .1))));
     }
 
 -- the document's words: a string of either that is no proper prefix of another in either
 pub union-top : (m n : Name) (s : Str) → In s (union m n) → Top s (m ++ n)
 unfolding union
-union-top m n s i = kept-top (m ++ n) s (sorted-in (keep (λ x. not (outgrown x (m ++ n))) (m ++ n)) s i)
+union-top m n s i = kept-top (m ++ n) s (sorted-in (kept (m ++ n)) s i)
 
 pub top-union : (m n : Name) (s : Str) → Top s (m ++ n) → In s (union m n)
 unfolding union
-top-union m n s p = in-sorted (keep (λ x. not (outgrown x (m ++ n))) (m ++ n)) s (top-kept (m ++ n) s p)
+top-union m n s p = in-sorted (kept (m ++ n)) s (top-kept (m ++ n) s p)
 
 pub union-rising : (m n : Name) → rising (union m n) ≡ true
 unfolding union
-union-rising m n =
-    sorted-rising (keep (λ x. not (outgrown x (m ++ n))) (m ++ n))
-    (λ s t i j p. kept-top (m ++ n) s i .alone t (kept-top (m ++ n) t j .inside) p)
+union-rising m n = sorted-rising (kept (m ++ n)) (λ s t i j p. kept-top (m ++ n) s i .alone t (kept-top (m ++ n) t j .inside) p)
 
 -- ---- every string of a list has one above it that stays
 
@@ -61,7 +61,7 @@ in-room [] s i = absurd i
 in-room (t ∷ l) s i = ⊎-elim (λ e. omega (arith, ap length e)) (λ h. omega (arith, in-room l s h)) i
 
 -- a proper extension is longer, so k of them lead to a string that has none
-climb : (l : List Str) (k : ℕ) (s : Str) → In s l → room l ≤ length s + k → Some (prefix s) (keep (λ x. not (outgrown x l)) l)
+climb : (l : List Str) (k : ℕ) (s : Str) → In s l → room l ≤ length s + k → Some (prefix s) (kept l)
 unfolding outgrown
 climb l zero s i h = absurd (omega (arith, in-room l s i))
 climb l (suc k) s i h = elim (decide (outgrown s l)) [
@@ -82,7 +82,7 @@ unfolding union
 over-union s m n t i p =
     let l = m ++ n in
     let u = climb l (room l) t i (omega arith) in
-    some-covered s (union m n) (u .one) (in-sorted (keep (λ x. not (outgrown x l)) l) (u .one) (u .inside)) (prefix-trans s t (u .one) p (u .passes))
+    some-covered s (union m n) (u .one) (in-sorted (kept l) (u .one) (u .inside)) (prefix-trans s t (u .one) p (u .passes))
 
 -- ↓(m ∪ n) is ↓m and ↓n together
 pub covered-union : (s : Str) (m n : Name) → covered s (union m n) ≡ (covered s m || covered s n)

@@ -3,13 +3,14 @@
 use Rattle.laws.proofs.Library.{_≡_, refl, sym, ap, ap₂, _∙_, Bool, true, false, cond, _&&_, Bool·beq, List, [], _∷_, _++_, inl, inr, and-false, ℕ}
 use Rattle.laws.proofs.Library.{zero, suc, _+_, _*_, _-_, _/_, _%_, _^_, _≤_, _<_, min, mod-lt, pow-suc, le-of-suc-le-suc, not-suc-le-zero}
 use Rattle.laws.proofs.Library.{div-lt-iff-lt-mul, mod-eq-of-lt, add-mul, mul-le-mul-right, mul-mod-left, le-mul-of-pos-right, arith, ltb-true, lt-ltb}
-use Rattle.laws.proofs.Library.{le-ltb, leb-true, eqb-true, eq-eqb, eqb, leb, ltb, leb·zero, leb·suc-zero, leb·suc-suc, length, take, replicate}
-use Rattle.laws.proofs.Library.{length-append, length-replicate, split, pow-pos, pow-add, pow-mono, shr-shr, shl-shr, high, low, mod-pow-add, take-at}
-use Rattle.laws.proofs.Library.{length-take-le}
+use Rattle.laws.proofs.Library.{le-ltb, leb-true, eqb-true, eq-eqb, eqb, leb, ltb, leb·zero, leb·suc-zero, leb·suc-suc, length, take, take-append-drop}
+use Rattle.laws.proofs.Library.{drop, replicate, length-append, length-replicate, split, pow-pos, pow-add, pow-mono, shr-shr, shl-shr, high, low}
+use Rattle.laws.proofs.Library.{mod-pow-add, take-at, length-take-le}
 use lib.Bits.{bitXor, xor-block, xor-lt}
 use lib.Count.{leadingZeros, leading-length, leading-unique}
 use Rattle.rules.specs.Strings.{Str, prefix, less, common, siblings, _▹_, digit, field, valueFrom, value, aligned, wordOf, strOf, isWord}
-use Rattle.laws.proofs.Tests.{no, decide, iff}
+use Rattle.laws.proofs.Tests.{decide, iff, not-false}
+use Rattle.laws.proofs.Rising.{less-append, less-irrefl, less-total, less-trans}
 use Rattle.laws.proofs.Bits.{field-length, value-lt, value-snoc, value-append, value-shift, value-field, value-field-exact, field-value, value-zeros}
 
 -- ---- fields
@@ -159,15 +160,12 @@ less-field k a b ha hb =
 -- first parts of which neither is a prefix of the other stand as the wholes do
 less-take : (m n : ℕ) (s t : Str) → prefix (take m s) (take n t) ≡ false → prefix (take n t) (take m s) ≡ false
     → less (take m s) (take n t) ≡ less s t
-unfolding less prefix
-less-take zero n s t p q = absurd (no (sym p))
-less-take (suc m) n [] t p q = absurd (no (sym p))
-less-take (suc m) zero (a ∷ s) t p q = absurd (no (sym q))
-less-take (suc m) (suc n) (a ∷ s) [] p q = absurd (no (sym q))
-less-take (suc m) (suc n) (true ∷ s) (true ∷ t) p q = less-take m n s t p q
-less-take (suc m) (suc n) (false ∷ s) (false ∷ t) p q = less-take m n s t p q
-less-take (suc m) (suc n) (true ∷ s) (false ∷ t) p q = refl
-less-take (suc m) (suc n) (false ∷ s) (true ∷ t) p q = refl
+less-take m n s t p q =
+    iff (on m n s t)
+    (λ h. not-false (λ e. less-irrefl s (less-trans s t s h (on n m t s (less-total (take m s) (take n t) p q e)))))
+  where
+    on : (m n : ℕ) (s t : Str) → less (take m s) (take n t) ≡ true → less s t ≡ true
+    on m n s t e = rw (take-append-drop m s, take-append-drop n t) at (less-append (take m s) (take n t) (drop m s) (drop n t) e)
 
 -- strings of which neither is a prefix of the other stand as their words do
 pub less-words : (a b : ℕ) → a < 2 ^ 64 → b < 2 ^ 64 → prefix (strOf a) (strOf b) ≡ false → prefix (strOf b) (strOf a) ≡ false

@@ -1,8 +1,8 @@
 -- A reader of bits, of a number or of a string gives back what was written in front of the rest, and what it gives was written there.
 -- Assumes nothing.
-use Rattle.laws.proofs.Library.{_≡_, refl, sym, ap, ap₂, _∙_, Bool, true, false, cond, List, _++_, append-assoc, Option, none, some}
-use Rattle.laws.proofs.Library.{Option·none-ne-some, Option·some-injective, ℕ, _^_, _≤_, _<_, arith, leb-true, le-leb, leb, length, take, drop}
-use Rattle.laws.proofs.Library.{length-append, take-append-drop, take-at, drop-at, length-take-le}
+use Rattle.laws.proofs.Library.{_≡_, refl, sym, ap, ap₂, _∙_, Bool, true, false, cond, List, _++_, append-assoc, Option, none, some, Option·none-ne-some}
+use Rattle.laws.proofs.Library.{Option·some-injective, ℕ, _^_, _≤_, _<_, arith, leb-true, le-leb, leb, length, take, drop, length-append, take-append-drop}
+use Rattle.laws.proofs.Library.{take-at, drop-at, length-take-le}
 use Rattle.rules.specs.Limits.{Limits}
 use Rattle.rules.specs.Strings.{Str, field, value}
 use Rattle.rules.specs.Packed.{stringBits, Taken, thenTake, takeBits, takeNumber, takeString}

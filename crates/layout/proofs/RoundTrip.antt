@@ -1,7 +1,7 @@
 -- Packed stamps and bytes that read are one to one. Writing then reading gives a lawful stamp back, and no other stamp has its bytes;
 -- reading then writing gives the bytes back, and no other bytes read as that stamp. Assumes nothing.
-use Rattle.laws.proofs.Library.{_≡_, refl, sym, ap, _∙_, Bool, true, List, Option, none, some, Option·none-ne-some, Option·some-injective, ℕ, _^_}
-use Rattle.laws.proofs.Library.{_≤_, lit≤, length, arith, inl, inr}
+use Rattle.laws.proofs.Library.{_≡_, refl, sym, ap, _∙_, Bool, true, List, Option, none, some, Option·none-ne-some, Option·some-injective, ℕ, _^_, _≤_, lit≤}
+use Rattle.laws.proofs.Library.{length, arith, inl, inr}
 use Rattle.rules.specs.Limits.{Limits, narrow}
 use Rattle.rules.specs.Names.{isName}
 use Rattle.rules.specs.Stamps.{Stamp, lawful}

@@ -1,14 +1,16 @@
 -- How many bytes a packed stamp takes: as many as hold its bits, and those of a lawful stamp lie between two names of one empty string
 -- and two full ones. Each digit more is one bit more, so both branches of a fork take the same number.
-use Rattle.laws.proofs.Library.{_≡_, sym, ap, _∙_, Bool, true, false, [], _∷_, _+_, _*_, _≤_, mul-le-mul-right, arith, length, length-append}
+use Rattle.laws.proofs.Library.{_≡_, refl, sym, ap, _∙_, Bool, true, false, inl, leb, [], _∷_, _+_, _*_, _≤_, mul-le-mul-right, arith, length, length-append}
 use Rattle.rules.specs.Limits.{Limits, narrow, bytesFor, shortest, longest}
 use Rattle.rules.specs.Strings.{Str, _▹_}
-use Rattle.rules.specs.Names.{Name, isName}
+use Rattle.rules.specs.Names.{Name, all, isName}
 use Rattle.rules.specs.Stamps.{Stamp, lawful, append, fork}
 use Rattle.rules.specs.Packed.{stringBits, stringsBits, nameBits, stampBits, packBits, packed}
 use Rattle.laws.proofs.Bits.{field-length}
 use Rattle.layout.proofs.Bytes.{areBytes, pack-length, bytes-are-bytes}
-use Rattle.layout.proofs.Names.{allShort, named, lawful-names, short-head, short-tail}
+use Rattle.layout.proofs.Names.{allShort, named, lawful-names}
+use Rattle.laws.proofs.Tests.{and-right}
+use Rattle.laws.proofs.Lawful.{all-short}
 
 module _ (L : Limits) where
   packed-length : (s : Stamp) → length (packed L s) ≡ bytesFor (length (stampBits L s))
@@ -42,9 +44,10 @@ module _ (L : Limits) where
   -- ---- between the shortest and the longest
 
   pub strings-most : (n : Name) → allShort L n ≡ true → length (stringsBits L n) ≤ length n * (L .lengthBits + L .digits)
-  unfolding stringsBits
+  unfolding stringsBits all
   strings-most [] h = omega arith
-  strings-most (s ∷ n) h = omega (arith, strings-length s n, short-head L s n h, strings-most n (short-tail L s n h))
+  strings-most (s ∷ n) h =
+      omega (arith, strings-length s n, all-short (L .digits) (s ∷ n) h s (inl refl), strings-most n (and-right (leb (length s) (L .digits)) (allShort L n) h))
 
   name-least : (n : Name) → isName L n ≡ true → L .countBits + L .lengthBits ≤ length (nameBits L n)
   name-least [] h = absurd (omega (arith, named L [] h .nonempty))
