@@ -1,7 +1,7 @@
 -- Numbers and their bits: a field of any width says the number's low bits, and bits are the field of the number that they say.
 -- Assumes nothing.
-use Rattle.laws.proofs.Library.{_≡_, refl, sym, ap, ap₂, _∙_, Bool, true, false, List, [], _∷_, _++_, ℕ, zero, suc, _+_, _*_, _/_, _%_, _^_, _<_}
-use Rattle.laws.proofs.Library.{pow-suc, mod-eq-of-lt, arith, eqb, mod-pow-add, high, length, replicate}
+use Rattle.laws.proofs.Library.{_≡_, refl, ap, ap₂, _∙_, Bool, true, false, List, [], _∷_, _++_, ℕ, zero, suc, _+_, _*_, _/_, _%_, _^_, _<_, pow-suc}
+use Rattle.laws.proofs.Library.{mod-eq-of-lt, arith, eqb, mod-pow-add, pow-add, high, length, replicate}
 use Rattle.rules.specs.Strings.{digit, field, valueFrom, value}
 
 pub field-length : (w a : ℕ) → length (field w a) ≡ w
@@ -24,17 +24,13 @@ pub value-snoc : (a : ℕ) (s : List Bool) (x : Bool) → valueFrom a (s ++ (x �
 unfolding valueFrom
 value-snoc a s x = value-append a s (x ∷ [])
 
-spread : (a t m p : ℕ) → (a * 2 + t) * p + m ≡ a * (p * 2) + (t * p + m)
-spread a t m p = omega arith
-
 value-from-field : (a w v : ℕ) → valueFrom a (field w v) ≡ a * 2 ^ w + v % 2 ^ w
 unfolding valueFrom field
 value-from-field a zero v = omega arith
 value-from-field a (suc w) v =
-    value-from-field (a * 2 + digit (eqb (v / 2 ^ w % 2) 1)) w v
-    ∙ ap (λ (t : ℕ). (a * 2 + t) * 2 ^ w + v % 2 ^ w) (digit-eqb (v / 2 ^ w % 2) (omega arith))
-    ∙ spread a (v / 2 ^ w % 2) (v % 2 ^ w) (2 ^ w)
-    ∙ ap₂ (λ (m n : ℕ). a * m + n) (sym (pow-suc 2 w)) (sym (mod-pow-add v 1 w) ∙ ap (λ (n : ℕ). v % 2 ^ n) (let e : 1 + w ≡ suc w = omega arith in e))
+    let e : suc w ≡ 1 + w = omega arith in
+    let d = v / 2 ^ w % 2 in
+    rw (value-from-field (a * 2 + digit (eqb d 1)) w v, digit-eqb d (omega arith), e, mod-pow-add v 1 w, pow-add 2 1 w) (omega arith)
 
 -- a field of any width says the number's low bits
 pub value-field : (w v : ℕ) → value (field w v) ≡ v % 2 ^ w
@@ -47,10 +43,7 @@ value-field-exact w v h = value-field w v ∙ mod-eq-of-lt h
 pub value-shift : (a : ℕ) (s : List Bool) → valueFrom a s ≡ a * 2 ^ length s + value s
 unfolding valueFrom
 value-shift a [] = omega arith
-value-shift a (x ∷ s) =
-    value-shift (a * 2 + digit x) s
-    ∙ spread a (digit x) (value s) (2 ^ length s)
-    ∙ ap₂ (λ (m n : ℕ). a * m + n) (sym (pow-suc 2 (length s))) (sym (value-shift (digit x) s) ∙ ap (λ (n : ℕ). valueFrom n s) (let e : digit x ≡ 0 * 2 + digit x = omega arith in e))
+value-shift a (x ∷ s) = rw (value-shift (a * 2 + digit x) s, value-shift (0 * 2 + digit x) s, pow-suc 2 (length s)) (omega arith)
 
 pub value-lt : (s : List Bool) → value s < 2 ^ length s
 unfolding valueFrom
