@@ -48,8 +48,7 @@ took-bits n bs s rest e =
 
 pub number-back : (w v : ℕ) (rest : List Bool) → v < 2 ^ w → takeNumber w (field w v ++ rest) ≡ some (v, rest)
 unfolding takeNumber
-number-back w v rest h =
-    go-on (λ f r. some (value f, r)) (bits-back w (field w v) rest (field-length w v)) ∙ ap (λ (n : ℕ). some (n, rest)) (value-field-exact w v h)
+number-back w v rest h = rw (bits-back w (field w v) rest (field-length w v), value-field-exact w v h)
 
 pub took-number : (w : ℕ) (bs : List Bool) (v : ℕ) (rest : List Bool) → takeNumber w bs ≡ some (v, rest) → (v < 2 ^ w) × (bs ≡ field w v ++ rest)
 unfolding takeNumber
@@ -65,9 +64,8 @@ module _ (L : Limits) where
   pub string-back : (s : Str) (rest : List Bool) → length s ≤ L .digits → L .digits < 2 ^ L .lengthBits → takeString L (stringBits L s ++ rest) ≡ some (s, rest)
   unfolding takeString stringBits
   string-back s rest short fits =
-      ap (takeString L) (append-assoc (field (L .lengthBits) (length s)) s rest)
-      ∙ go-on (λ n r. cond (leb n (L .digits)) (takeBits n r) none) (number-back (L .lengthBits) (length s) (s ++ rest) (omega arith))
-      ∙ rw (le-leb (length s) (L .digits) short) (bits-back (length s) s rest refl)
+      rw (append-assoc (field (L .lengthBits) (length s)) s rest, number-back (L .lengthBits) (length s) (s ++ rest) (omega arith))
+      (rw (le-leb (length s) (L .digits) short) (bits-back (length s) s rest refl))
 
   pub took-string : (bs : List Bool) (s : Str) (rest : List Bool) → takeString L bs ≡ some (s, rest) → (length s ≤ L .digits) × (bs ≡ stringBits L s ++ rest)
   unfolding takeString stringBits

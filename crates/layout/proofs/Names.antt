@@ -1,15 +1,15 @@
 -- Names and stamps go through the packed bits and back: the count says how many strings follow, and each says how long it is.
 -- What is read rises as a name does. Assumes nothing.
-use Rattle.laws.proofs.Library.{_≡_, refl, sym, ap, ap₂, _∙_, subst, subst₂, Bool, true, cond, List, [], _∷_, _++_, append-assoc, ⊎-elim, inr, inl, none}
-use Rattle.laws.proofs.Library.{some, ℕ, zero, suc, _-_, _^_, _≤_, _<_, arith, leb, lit<, lit≤, length}
+use Rattle.laws.proofs.Library.{_≡_, refl, sym, ap, ap₂, _∙_, subst, subst₂, Bool, true, List, [], _∷_, _++_, append-assoc, ⊎-elim, inr, inl, some, ℕ, zero}
+use Rattle.laws.proofs.Library.{suc, _-_, _^_, _≤_, _<_, arith, leb, lit<, lit≤, length}
 use Rattle.rules.specs.Limits.{Limits, narrow}
 use Rattle.rules.specs.Strings.{Str, field, less}
 use Rattle.rules.specs.Names.{Name, all, rising, isName}
 use Rattle.rules.specs.Stamps.{Stamp, lawful}
-use Rattle.rules.specs.Packed.{stringBits, stringsBits, nameBits, stampBits, thenTake, takeString, takeMore, takeName, takeStamp}
+use Rattle.rules.specs.Packed.{stringBits, stringsBits, nameBits, stampBits, thenTake, takeMore, takeName, takeStamp}
 use Rattle.laws.proofs.Rising.{rising-head, rising-tail, rising-cons, rising-before}
 use Rattle.laws.proofs.Lawful.{Short, short-all, name-parts, parts-name, lawful-parts}
-use Rattle.layout.proofs.Fields.{let-through, same-value, steps, go-on, number-back, took-number, string-back, took-string}
+use Rattle.layout.proofs.Fields.{let-through, same-value, steps, number-back, took-number, string-back, took-string}
 
 -- the fields are wide enough for what the limits allow
 pub record Fitting (L : Limits) : Type 0 where
@@ -51,10 +51,8 @@ module _ (L : Limits) where
   unfolding takeMore stringsBits
   more-back fits s [] rest short h = refl
   more-back fits s (t ∷ n) rest short h =
-      ap (takeMore L (suc (length n)) s) (append-assoc (stringBits L t) (stringsBits L n) rest)
-      ∙ go-on (λ u r. cond (less s u) (thenTake (takeMore L (length n) u r) (λ m end. some (u ∷ m, end))) none)
-      (string-back L t (stringsBits L n ++ rest) (short t (inl refl)) fits)
-      ∙ rw (rising-head s (t ∷ n) h t (inl refl)) (go-on (λ m end. some (t ∷ m, end)) (more-back fits t n rest (λ u i. short u (inr i)) (rising-tail s (t ∷ n) h)))
+      rw (append-assoc (stringBits L t) (stringsBits L n) rest, string-back L t (stringsBits L n ++ rest) (short t (inl refl)) fits)
+      (rw (rising-head s (t ∷ n) h t (inl refl), more-back fits t n rest (λ u i. short u (inr i)) (rising-tail s (t ∷ n) h)))
 
   -- so many strings, each allowed, each after the one before it, were written there
   pub record More (k : ℕ) (s : Str) (bs : List Bool) (n : Name) (rest : List Bool) : Type 0 where
@@ -96,12 +94,9 @@ module _ (L : Limits) where
   name-back fit [] rest h = absurd (omega (arith, name-parts L [] h .filled))
   name-back fit (s ∷ n) rest h =
       let i = name-parts L (s ∷ n) h in
-      ap (takeName L) (name-bits s n rest)
-      ∙ go-on (λ k r. thenTake (takeString L r) (λ t more. thenTake (takeMore L k t more) (λ m end. some (t ∷ m, end))))
-      (number-back (L .countBits) (length n) (stringBits L s ++ (stringsBits L n ++ rest)) (omega (arith, i .few, fit .counts)))
-      ∙ go-on (λ t more. thenTake (takeMore L (length n) t more) (λ m end. some (t ∷ m, end)))
-      (string-back L s (stringsBits L n ++ rest) (i .short s (inl refl)) (fit .lengths))
-      ∙ go-on (λ m end. some (s ∷ m, end)) (more-back (fit .lengths) s n rest (λ t j. i .short t (inr j)) (i .rises))
+      rw (name-bits s n rest, number-back (L .countBits) (length n) (stringBits L s ++ (stringsBits L n ++ rest)) (omega (arith, i .few, fit .counts)))
+      (rw (string-back L s (stringsBits L n ++ rest) (i .short s (inl refl)) (fit .lengths))
+      (rw (more-back (fit .lengths) s n rest (λ t j. i .short t (inr j)) (i .rises))))
 
   -- a name was found: written there, of as many strings as its count can say
   pub record Found (bs : List Bool) (n : Name) (rest : List Bool) : Type 0 where
@@ -138,9 +133,7 @@ module _ (L : Limits) where
       → takeStamp L (stampBits L s ++ rest) ≡ some (s, rest)
   unfolding takeStamp stampBits
   stamp-back fit s rest u i =
-      ap (takeStamp L) (append-assoc (nameBits L (s .update)) (nameBits L (s .id)) rest)
-      ∙ go-on (λ m r. thenTake (takeName L r) (λ n end. some (record { update = m; id = n }, end))) (name-back fit (s .update) (nameBits L (s .id) ++ rest) u)
-      ∙ go-on (λ n end. some (record { update = s .update; id = n }, end)) (name-back fit (s .id) rest i)
+      rw (append-assoc (nameBits L (s .update)) (nameBits L (s .id)) rest, name-back fit (s .update) (nameBits L (s .id) ++ rest) u, name-back fit (s .id) rest i)
 
   pub took-stamp : (bs : List Bool) (s : Stamp) (rest : List Bool) → takeStamp L bs ≡ some (s, rest) → bs ≡ stampBits L s ++ rest
   unfolding takeStamp stampBits

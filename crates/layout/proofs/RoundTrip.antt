@@ -22,9 +22,7 @@ module _ (L : Limits) where
   pub unpacked-packed : Fitting L → (s : Stamp) → isName L (s .update) ≡ true → isName L (s .id) ≡ true → unpacked L (packed L s) ≡ some s
   unfolding unpacked packed
   unpacked-packed fit s u i =
-      let z = fillingOf (length (stampBits L s)) in
-      ap (λ (bs : List Bool). filledOnly (takeStamp L bs)) (packed-bits (stampBits L s)) ∙ ap filledOnly (stamp-back L fit s z u i)
-      ∙ rw (filling-is (length (stampBits L s)))
+      rw (packed-bits (stampBits L s), stamp-back L fit s (fillingOf (length (stampBits L s))) u i, filling-is (length (stampBits L s)))
 
   filled : {P : Type 0} (t : Taken Stamp) (s : Stamp) → filledOnly t ≡ some s → ((z : List Bool) → t ≡ some (s, z) → isFilling z ≡ true → P) → P
   filled none s e k = absurd (Option·none-ne-some s e)
