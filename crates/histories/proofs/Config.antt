@@ -22,6 +22,12 @@ is-where a x = elim (decide (eqb x a)) [ inl e ↦ here (eqb-true x a e) e | inr
 pub among : {S : List ℕ} {P Q : ℕ → Type 0} → ((b : ℕ) → In b S → P b → Q b) → Among S P → Among S Q
 among f a = record { slot = a .slot; inside = a .inside; holds = f (a .slot) (a .inside) (a .holds) }
 
+-- a string that x's update name covers is below that of S too
+pub under-covered : (C : Config) (x : ℕ) (S : List ℕ) → Under C x S → (r : Str) → covered r (C .stamp x .update) ≡ true → Covers C S r
+under-covered C x S u r h =
+    let t = covered-some r (C .stamp x .update) h in
+    among (λ b i k. covered-down r (t .one) (C .stamp b .update) (t .passes) k) (u (t .one) (t .inside))
+
 -- Invariants 4.5 and 4.6
 abbrev pub ApartIn : Config → Type 0
 ApartIn C = (a b : ℕ) (s t : Str) → C .present a ≡ true → C .present b ≡ true → In s (C .stamp a .id) → In t (C .stamp b .id) → prefix s t ≡ true
@@ -126,9 +132,7 @@ module _ (C D : Config) (old : ℕ → List ℕ) (m : Reads C D old) (q : Sound 
       let a = m .eventsBack x e p i in
       on S g (λ y z o j k. m .eventsOn y z e o j k)
       (q .shown (a .slot) (gather old S) (m .slots x (a .slot) p (a .inside)) (all-back S g) (some-back S g h)
-      (λ r j. let t = covered-some r (D .stamp x .update) (m .updateOn x (a .slot) r p (a .inside) j) in
-      among (λ b k c. covered-down r (t .one) (C .stamp b .update) (t .passes) c) (back S g (λ y o k. covered-back y (t .one) o k) (u (t .one) (t .inside)))) e
-      (a .holds))
+      (λ r j. back S g (λ y o k. covered-back y r o k) (under-covered D x S u r (m .updateOn x (a .slot) r p (a .inside) j))) e (a .holds))
 
   -- the rest of what a sound configuration has
   pub reads-sound : ((a : ℕ) → D .present a ≡ true → Proper (D .stamp a)) → ApartIn D → SeenIn D → Sound D

@@ -10,7 +10,7 @@ use Rattle.rules.specs.Stamps.{verdict, compare}
 use Rattle.rules.specs.Stored.{unlawful, absent}
 use Rattle.rules.specs.Refusals.{first, long, touches, overlap, unknownTo, unseen}
 use Rattle.rules.specs.Values.{told}
-use Rattle.rules.specs.Tables.{Table, outside, at, stampAt, badSize, noSlot, present, full, stepped, oneSlot, updateAt, forkAt, joinAt, compareAt, orNext, spareFrom, spareAt}
+use Rattle.rules.specs.Tables.{Table, outside, at, stampAt, badSize, noSlot, present, full, stepped, oneSlot, updateAt, forkAt, joinAt, compareAt, orNext, sparedAfter, spareFrom, spareAt}
 use Rattle.rules.specs.Histories.{World, Events, eventsAt, within, eventVerdict, isObsolete, slotsFrom, isBehind, eventsOf}
 use Rattle.rules.specs.Promises.{Usual, UsualSlot, UsualCompared, UsualSpared, Right}
 use Rattle.rules.specs.declared.Verdict.{Verdict}
@@ -28,7 +28,7 @@ use Rattle.laws.proofs.Union.{covered-unions}
 use Rattle.laws.proofs.Stored.{stored-not-unlawful}
 use Rattle.histories.specs.Configurations.{AllPresent, Among, Config, Covers, Seen}
 use Rattle.histories.proofs.Config.{in-one, gather, in-gather, gather-in}
-use Rattle.histories.proofs.Tables.{forkTests, joinTests, compareTests, passed-done, done-passed, Usuals, end, never, gives, UsualAnswer, first-usual, present-by}
+use Rattle.histories.proofs.Tables.{forkTests, joinTests, compareTests, passed-done, answered, Usuals, end, never, gives, UsualAnswer, first-usual, present-by}
 use Rattle.histories.proofs.Good.{configOf, Good}
 
 -- ---- events and names of some slots
@@ -240,12 +240,11 @@ module _ (L : Limits) (n : ℕ) (some : 1 ≤ n) (few : n ≤ records) (w : Worl
       (two-slots-usual a b _ (λ p q. never (fits a p) (never (fits b q) (never (overlap-tested a b p q) (never (unseen-tested a b p q) end))))))
 
   usual-spare : (a : ℕ) → UsualSpared (spareAt L t a)
-  unfolding spareAt
-  usual-spare a = by (first (oneSlot L t a [])) refl
-    where
-      by : (x : Answer) → first (oneSlot L t a []) ≡ x → UsualSpared (spareAt L t a)
-      by Done e = subst UsualSpared (sym (spares a (is-not (done-passed (oneSlot L t a []) e .1 .0)))) (kept-usual (isBehind L w a))
-      by (Refused r) e = rw e (rw e at (first-usual (one-slot-usual a [] (λ _. end))))
+  unfolding spareAt isBehind
+  usual-spare a =
+      answered (oneSlot L t a []) (λ x. UsualAnswer x → UsualSpared (sparedAfter x (spareFrom L (stampAt t a) a 0 t)))
+      (λ p _. subst UsualSpared (sym (spare-from a (is-not (p .1 .0)) (length t) 0 (zero-add (length t)))) (kept-usual (isBehind L w a))) (λ r u. u)
+      (first-usual (one-slot-usual a [] (λ _. end)))
 
   pub good-right : Right L w
   good-right = record {

@@ -32,13 +32,11 @@ unfolding first
 passed-done [] p = refl
 passed-done (t ∷ ts) p = rw (p .0) (passed-done ts (p .1))
 
-pub done-passed : (ts : List (Bool × Refusal)) → first ts ≡ Done → Passed ts
+-- what holds where no test does, and of every refusal, holds of the answer
+pub answered : (ts : List (Bool × Refusal)) (P : Answer → Type 0) → (Passed ts → P Done) → ((r : Refusal) → P (Refused r)) → P (first ts)
 unfolding first
-done-passed [] e = tt
-done-passed (t ∷ ts) e = elim (decide (t .0)) [
-  | inl p ↦ absurd (let z : _≡_ {A = ℕ} 0 1 = cc (rw p at e) in omega arith)
-  | inr p ↦ (p, done-passed ts (rw p at e))
-]
+answered [] P f g = f tt
+answered (t ∷ ts) P f g = elim (decide (t .0)) [ inl e ↦ rw e (g (t .1)) | inr e ↦ rw e (answered ts P (λ p. f (e, p)) g) ]
 
 -- tests in their order: each never holds, or has a number that such a table gives
 pub data Usuals : List (Bool × Refusal) → Type 0 where
