@@ -14,7 +14,8 @@ use Rattle.laws.proofs.Lawful.{lawful-start}
 use Rattle.laws.proofs.Stored.{is-stored, blank-absent}
 use Rattle.histories.specs.Configurations.{Config, Sound, initial, put}
 use Rattle.histories.proofs.Config.{here, there, is-where, sound-same, sound-start}
-use Rattle.histories.proofs.Tables.{present-size, present-there, at-put, present-stored, stamp-stored, shareOf, share-blank, sum-blank, sum-stored, share-start}
+use Rattle.histories.proofs.Tables.{present-size, present-there, at-put, present-stored, stamp-stored, shareOf, share-blank, sum-blank, sum-stored}
+use Rattle.histories.proofs.Tables.{share-start}
 
 -- what the slots hold, with no limits
 abbrev pub configOf : Limits → World → Config

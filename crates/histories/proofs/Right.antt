@@ -10,7 +10,8 @@ use Rattle.rules.specs.Stamps.{verdict, compare}
 use Rattle.rules.specs.Stored.{unlawful, absent}
 use Rattle.rules.specs.Refusals.{first, long, touches, overlap, unknownTo, unseen}
 use Rattle.rules.specs.Values.{told}
-use Rattle.rules.specs.Tables.{Table, outside, at, stampAt, badSize, noSlot, present, full, stepped, oneSlot, updateAt, forkAt, joinAt, compareAt, orNext, sparedAfter, spareFrom, spareAt}
+use Rattle.rules.specs.Tables.{Table, outside, at, stampAt, badSize, noSlot, present, full, stepped, oneSlot, updateAt, forkAt, joinAt, compareAt, orNext}
+use Rattle.rules.specs.Tables.{sparedAfter, spareFrom, spareAt}
 use Rattle.rules.specs.Histories.{World, Events, eventsAt, within, eventVerdict, isObsolete, slotsFrom, isBehind, eventsOf}
 use Rattle.rules.specs.Promises.{Usual, UsualSlot, UsualCompared, UsualSpared, Right}
 use Rattle.rules.specs.declared.Verdict.{Verdict}
@@ -28,7 +29,8 @@ use Rattle.laws.proofs.Union.{covered-unions}
 use Rattle.laws.proofs.Stored.{stored-not-unlawful}
 use Rattle.histories.specs.Configurations.{AllPresent, Among, Config, Covers, Seen}
 use Rattle.histories.proofs.Config.{in-one, gather, in-gather, gather-in}
-use Rattle.histories.proofs.Tables.{forkTests, joinTests, compareTests, passed-done, answered, Usuals, end, never, gives, UsualAnswer, first-usual, present-by}
+use Rattle.histories.proofs.Tables.{forkTests, joinTests, compareTests, passed-done, answered, Usuals, end, never, gives, UsualAnswer, first-usual}
+use Rattle.histories.proofs.Tables.{present-by}
 use Rattle.histories.proofs.Good.{configOf, Good}
 
 -- ---- events and names of some slots

@@ -80,11 +80,10 @@ rising-before s t n p h = rising-cons s (t ∷ n) (λ u i. ⊎-elim (λ k. rw k 
 -- in a rising list none is a prefix of another
 pub rising-antichain : (n : Name) → rising n ≡ true → (s t : Str) → In s n → In t n → prefix s t ≡ true → s ≡ t
 rising-antichain [] h s t i j p = absurd i
-rising-antichain (u ∷ n) h s t i j p =
-    ⊎-elim
-    (λ a. ⊎-elim (λ b. a ∙ sym b) (λ b. absurd (clash p (less-apart s t (subst (λ (z : Str). less z t ≡ true) (sym a) (rising-head u n h t b)) .0))) j)
-    (λ a. ⊎-elim (λ b. absurd (clash p (less-apart t s (subst (λ (z : Str). less z s ≡ true) (sym b) (rising-head u n h s a)) .1))) (λ b. rising-antichain n (rising-tail u n h) s t a b p) j)
-    i
+rising-antichain (u ∷ n) h s t i j p = elim i [
+  | inl a ↦ ⊎-elim (λ b. a ∙ sym b) (λ b. absurd (clash p (less-apart s t (rw a (rising-head u n h t b)) .0))) j
+  | inr a ↦ ⊎-elim (λ b. absurd (clash p (less-apart t s (rw b (rising-head u n h s a)) .1))) (λ b. rising-antichain n (rising-tail u n h) s t a b p) j
+]
 
 -- the heads of two rising lists with the same strings
 rising-heads : (s t : Str) (m n : Name) → rising (s ∷ m) ≡ true → rising (t ∷ n) ≡ true → In s (t ∷ n) → In t (s ∷ m) → s ≡ t

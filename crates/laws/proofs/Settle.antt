@@ -31,7 +31,9 @@ other-is s t e =
 
 is-other : (s t : Str) → Other s t → other s t ≡ true
 is-other s t o =
-    is-not (not-true (λ e. ⊎-elim (λ h. o .0 (sym (same-is (s ▹ false) t h))) (λ h. o .1 (sym (same-is (s ▹ true) t h))) (or-cases (same (s ▹ false) t) (same (s ▹ true) t) e)))
+    is-not
+    (not-true (λ e.
+    ⊎-elim (λ h. o .0 (sym (same-is (s ▹ false) t h))) (λ h. o .1 (sym (same-is (s ▹ true) t h))) (or-cases (same (s ▹ false) t) (same (s ▹ true) t) e)))
 
 -- the test that `settle` makes
 held-test : (s : Str) (n : Name) → (member (s ▹ false) n || member (s ▹ true) n) ≡ true → Held s n

@@ -4,7 +4,8 @@ use Rattle.laws.proofs.Library.{_≡_, refl, ap, _∙_, Bool, true, not
 use Rattle.laws.proofs.Library.{_<_, arith, lt-of-not-le, length}
 use Rattle.rules.specs.Strings.{Str, prefix, same}
 use Rattle.rules.specs.Names.{Name, any, keep, rising, covered, below, outgrown, union, unions}
-use Rattle.laws.proofs.Tests.{clash, decide, not-true, not-false, iff, and-left, and-right, and-both, or-cases, or-left, or-right, not-is, is-not, In, in-left, in-right, in-append, Some, any-some, some-any, none-any, keep-in, in-keep}
+use Rattle.laws.proofs.Tests.{clash, decide, not-true, not-false, iff, and-left, and-right, and-both, or-cases, or-left, or-right, not-is, is-not, In}
+use Rattle.laws.proofs.Tests.{in-left, in-right, in-append, Some, any-some, some-any, none-any, keep-in, in-keep}
 use Rattle.laws.proofs.Prefix.{prefix-refl, prefix-trans, prefix-whole, same-is, is-same}
 use Rattle.laws.proofs.Rising.{sorted-in, in-sorted, sorted-rising}
 use Rattle.laws.proofs.Below.{covered-some, some-covered, in-covered, below-each, each-below, below-trans}

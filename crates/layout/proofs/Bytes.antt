@@ -28,8 +28,9 @@ pub bytes-are-bytes : (n : ℕ) (bs : List Bool) → areBytes (bytesOf n bs) ≡
 unfolding bytesOf all
 bytes-are-bytes zero bs = refl
 bytes-are-bytes (suc n) bs =
-    let room : 2 ^ length (take byteBits bs) ≤ 2 ^ byteBits = pow-mono {i = length (take byteBits bs)} {j = byteBits} (omega (arith, length-take byteBits bs)) in
-    and-both (lt-ltb (value (take byteBits bs)) 256 (omega (arith, value-lt (take byteBits bs)))) (bytes-are-bytes n (drop byteBits bs))
+    let s = take byteBits bs in
+    let room : 2 ^ length s ≤ 2 ^ byteBits = pow-mono {i = length s} {j = byteBits} (omega (arith, length-take byteBits bs)) in
+    and-both (lt-ltb (value s) 256 (omega (arith, value-lt s))) (bytes-are-bytes n (drop byteBits bs))
 
 -- bytes are told by their bits
 pub bytes-of-bits : (b : List ℕ) → areBytes b ≡ true → bytesOf (length b) (bitsOf b) ≡ b

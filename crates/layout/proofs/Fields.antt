@@ -42,7 +42,7 @@ unfolding takeBits
 took-bits n bs s rest e =
     let c = let-through (leb n (length bs)) (some (take n bs, drop n bs)) (s, rest) e in
     let p = same-value (take n bs) s (drop n bs) rest (c .1) in
-    (ap length (sym (p .0)) ∙ length-take-le n bs (leb-true n (length bs) (c .0)), sym (take-append-drop n bs) ∙ ap₂ (λ (a b : List Bool). a ++ b) (p .0) (p .1))
+    (ap length (sym (p .0)) ∙ length-take-le n bs (leb-true n (length bs) (c .0)), rw (← (p .0), ← (p .1)) (sym (take-append-drop n bs)))
 
 -- ---- numbers
 

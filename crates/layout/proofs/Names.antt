@@ -133,7 +133,8 @@ module _ (L : Limits) where
       → takeStamp L (stampBits L s ++ rest) ≡ some (s, rest)
   unfolding takeStamp stampBits
   stamp-back fit s rest u i =
-      rw (append-assoc (nameBits L (s .update)) (nameBits L (s .id)) rest, name-back fit (s .update) (nameBits L (s .id) ++ rest) u, name-back fit (s .id) rest i)
+      rw (append-assoc (nameBits L (s .update)) (nameBits L (s .id)) rest, name-back fit (s .update) (nameBits L (s .id) ++ rest) u)
+      (rw (name-back fit (s .id) rest i))
 
   pub took-stamp : (bs : List Bool) (s : Stamp) (rest : List Bool) → takeStamp L bs ≡ some (s, rest) → bs ≡ stampBits L s ++ rest
   unfolding takeStamp stampBits
