@@ -3,10 +3,10 @@
 use Rattle.laws.proofs.Library.{_≡_, refl, sym, ap, _∙_, subst, Bool, true, false, List, [], _∷_, _++_, inl, inr, ⊎-elim, ℕ, _≤_, _<_, arith, eqb, length}
 use Rattle.laws.proofs.Library.{eqb-true, eqb-false}
 use Rattle.rules.specs.Strings.{Str, prefix}
-use Rattle.rules.specs.Names.{all, rising, covered}
+use Rattle.rules.specs.Names.{all, rising, covered, below}
 use Rattle.rules.specs.Stamps.{Stamp}
 use Rattle.laws.proofs.Tests.{decide, In, in-filled, in-left, in-right, in-append}
-use Rattle.laws.proofs.Below.{covered-some, some-covered, in-covered, covered-down, below-refl}
+use Rattle.laws.proofs.Below.{below-each, covered-below, covered-some, some-covered, in-covered, covered-down, below-refl}
 use Rattle.laws.proofs.Steps.{Proper}
 use Rattle.histories.specs.Configurations.{AllPresent, Among, Config, Covers, Seen, Sound, Under, Within, initial, restricted}
 
@@ -45,7 +45,7 @@ pub record Reads (C D : Config) (old : ℕ → List ℕ) : Type 0 where
   pub eventsBack : (x e : ℕ) → D .present x ≡ true → In e (D .events x) → Seen C (old x) e
   pub eventsOn : (x y e : ℕ) → D .present x ≡ true → In y (old x) → In e (C .events y) → In e (D .events x)
   pub updateBack : (x : ℕ) (r : Str) → D .present x ≡ true → In r (D .stamp x .update) → Among (old x) (λ y. In r (C .stamp y .update))
-  pub updateOn : (x y : ℕ) (r : Str) → D .present x ≡ true → In y (old x) → In r (C .stamp y .update) → covered r (D .stamp x .update) ≡ true
+  pub updateOn : (x y : ℕ) → D .present x ≡ true → In y (old x) → below (C .stamp y .update) (D .stamp x .update) ≡ true
   pub next : D .next ≡ C .next
 
 pub in-one : {A : Type 0} (x y : A) → In y (x ∷ []) → y ≡ x
@@ -81,11 +81,6 @@ module _ (C D : Config) (old : ℕ → List ℕ) (m : Reads C D old) (q : Sound 
       let t = covered-some r (D .stamp x .update) e in
       among (λ y i h. some-covered r (C .stamp y .update) (t .one) h (t .passes)) (m .updateBack x (t .one) p (t .inside))
 
-  pub covered-on : (x y : ℕ) (r : Str) → D .present x ≡ true → In y (old x) → covered r (C .stamp y .update) ≡ true → covered r (D .stamp x .update) ≡ true
-  covered-on x y r p i e =
-      let t = covered-some r (C .stamp y .update) e in
-      covered-down r (t .one) (D .stamp x .update) (t .passes) (m .updateOn x y (t .one) p i (t .inside))
-
   module _ (S : List ℕ) (g : AllPresent D S) where
     all-back : AllPresent C (gather old S)
     all-back y i = let a = gather-in old S y i in m .slots (a .slot) y (g (a .slot) (a .inside)) (a .holds)
@@ -111,7 +106,7 @@ module _ (C D : Config) (old : ℕ → List ℕ) (m : Reads C D old) (q : Sound 
   reads-nonempty x p =
       let y = m .one x p in
       let s = q .nonempty (y .0) (m .slots x (y .0) p (y .1)) in
-      let t = covered-some (s .0) (D .stamp x .update) (m .updateOn x (y .0) (s .0) p (y .1) (s .1)) in
+      let t = covered-some (s .0) (D .stamp x .update) (below-each (C .stamp (y .0) .update) (D .stamp x .update) (m .updateOn x (y .0) p (y .1)) (s .0) (s .1)) in
       (t .one, t .inside)
 
   reads-fresh : (x e : ℕ) → D .present x ≡ true → In e (D .events x) → e < D .next
@@ -123,7 +118,7 @@ module _ (C D : Config) (old : ℕ → List ℕ) (m : Reads C D old) (q : Sound 
   reads-known : (x : ℕ) (S : List ℕ) → D .present x ≡ true → AllPresent D S → 1 ≤ length S → Within D x S → Under D x S
   reads-known x S p g h w r i =
       let a = m .updateBack x r p i in
-      on S g (λ y z o j k. covered-on y z r o j k)
+      on S g (λ y z o j k. covered-below r (C .stamp z .update) (D .stamp y .update) k (m .updateOn y z o j))
       (q .known (a .slot) (gather old S) (m .slots x (a .slot) p (a .inside)) (all-back S g) (some-back S g h)
       (λ e j. back S g (λ y o k. m .eventsBack y e o k) (w e (m .eventsOn x (a .slot) e p (a .inside) j))) r (a .holds))
 
@@ -132,7 +127,8 @@ module _ (C D : Config) (old : ℕ → List ℕ) (m : Reads C D old) (q : Sound 
       let a = m .eventsBack x e p i in
       on S g (λ y z o j k. m .eventsOn y z e o j k)
       (q .shown (a .slot) (gather old S) (m .slots x (a .slot) p (a .inside)) (all-back S g) (some-back S g h)
-      (λ r j. back S g (λ y o k. covered-back y r o k) (under-covered D x S u r (m .updateOn x (a .slot) r p (a .inside) j))) e (a .holds))
+      (λ r j. back S g (λ y o k. covered-back y r o k) (under-covered D x S u r
+      (below-each (C .stamp (a .slot) .update) (D .stamp x .update) (m .updateOn x (a .slot) p (a .inside)) r j))) e (a .holds))
 
   -- the rest of what a sound configuration has
   pub reads-sound : ((a : ℕ) → D .present a ≡ true → Proper (D .stamp a)) → ApartIn D → SeenIn D → Sound D
@@ -161,7 +157,7 @@ moved-reads C D old m = record {
   eventsBack = λ x e p i. record { slot = old x; inside = inl refl; holds = rw (m .sets x p) at i };
   eventsOn = λ x y e p i j. rw (m .sets x p) (rw (in-one (old x) y i) at j);
   updateBack = λ x r p i. record { slot = old x; inside = inl refl; holds = rw (m .updates x p) at i };
-  updateOn = λ x y r p i j. in-covered r (D .stamp x .update) (rw (m .updates x p) (rw (in-one (old x) y i) at j));
+  updateOn = λ x y p i. rw (m .updates x p, in-one (old x) y i) (below-refl (C .stamp (old x) .update));
   next = m .next;
 }
 

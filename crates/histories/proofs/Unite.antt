@@ -2,15 +2,15 @@
 -- reads as the two slots of before. Assumes nothing.
 use Rattle.laws.proofs.Library.{_≡_, refl, sym, ap, _∙_, true, false, List, [], _∷_, _⊎_, inl, inr, ⊎-elim, ℕ, eqb}
 use Rattle.rules.specs.Strings.{Str}
-use Rattle.rules.specs.Names.{Name, covered, union}
+use Rattle.rules.specs.Names.{Name, below, union}
 use Rattle.rules.specs.Stamps.{Stamp, unite}
-use Rattle.laws.proofs.Tests.{no, or-left, or-right, In, in-left, in-right, in-append}
-use Rattle.laws.proofs.Below.{covered-some, some-covered, in-covered}
-use Rattle.laws.proofs.Union.{union-top, covered-union}
+use Rattle.laws.proofs.Tests.{no, In, in-left, in-right, in-append}
+use Rattle.laws.proofs.Below.{covered-some, some-covered, covered-below, below-refl}
+use Rattle.laws.proofs.Union.{union-top, below-union-left, below-union-right}
 use Rattle.laws.proofs.Steps.{Proper}
 use Rattle.laws.proofs.Lawful.{unite-proper}
 use Rattle.histories.specs.Configurations.{Among, Config, Sound, put, united}
-use Rattle.histories.proofs.Config.{Where, here, there, is-where, ApartIn, SeenIn, Reads, in-one, covered-on, reads-sound}
+use Rattle.histories.proofs.Config.{Where, here, there, is-where, ApartIn, SeenIn, Reads, in-one, reads-sound}
 
 in-two : {A : Type 0} (x y z : A) → In z (x ∷ y ∷ []) → (z ≡ x) ⊎ (z ≡ y)
 in-two x y z i = ⊎-elim (λ e. inl e) (λ h. inr (in-one y z h)) i
@@ -67,16 +67,14 @@ module _ (C : Config) (q : Sound C) (a b : ℕ) (pa : C .present a ≡ true) (pb
       | other o c k ↦ rw c (record { slot = x; inside = inl refl; holds = rw c at i })
     ]
 
-  updates-on : (x y : ℕ) (r : Str) → D .present x ≡ true → In y (old x) → In r (C .stamp y .update) → covered r (D .stamp x .update) ≡ true
+  updates-on : (x y : ℕ) → D .present x ≡ true → In y (old x) → below (C .stamp y .update) (D .stamp x .update) ≡ true
   unfolding unite
-  updates-on x y r p i j = elim (place x p) [
+  updates-on x y p i = elim (place x p) [
     | both e c ↦
         let m = C .stamp a .update in
         let n = C .stamp b .update in
-        rw (c, covered-union r m n)
-        (⊎-elim (λ h. or-left (covered r n) (in-covered r m (rw h at j))) (λ h. or-right (covered r m) (in-covered r n (rw h at j)))
-        (in-two a b y (rw c at i)))
-    | other o c k ↦ rw c (in-covered r (C .stamp x .update) (rw (in-one x y (rw c at i)) at j))
+        rw c (⊎-elim (λ h. rw h (below-union-left m n)) (λ h. rw h (below-union-right m n)) (in-two a b y (rw c at i)))
+    | other o c k ↦ rw (c, in-one x y (rw c at i)) (below-refl (C .stamp x .update))
   ]
 
   events-back : (x e : ℕ) → D .present x ≡ true → In e (D .events x) → Among (old x) (λ y. In e (C .events y))
@@ -130,9 +128,9 @@ module _ (C : Config) (q : Sound C) (a b : ℕ) (pa : C .present a ≡ true) (pb
       let f = reads .updateBack x r px i in
       let t = covered-some r (D .stamp y .id) h in
       let g = ids-back y (t .one) py (t .inside) in
-      covered-on C D old reads q y (g .slot) r py (g .inside)
+      covered-below r (C .stamp (g .slot) .update) (D .stamp y .update)
       (q .seen (f .slot) (g .slot) r (slots x (f .slot) px (f .inside)) (slots y (g .slot) py (g .inside)) (f .holds)
-      (some-covered r (C .stamp (g .slot) .id) (t .one) (g .holds) (t .passes)))
+      (some-covered r (C .stamp (g .slot) .id) (t .one) (g .holds) (t .passes))) (updates-on y (g .slot) py (g .inside))
 
   pub unite-sound : Sound (united a b C)
   unite-sound = reads-sound C D old reads q proper-after apart-after seen-after
