@@ -6,9 +6,9 @@ use Rattle.rules.specs.Strings.{Str, prefix, _▹_}
 use Rattle.rules.specs.Names.{Name, any, all, rising, covered, below}
 use Rattle.rules.specs.Stamps.{pair, append}
 use Rattle.laws.proofs.Tests.{no, In, any-none, all-each, each-all}
-use Rattle.laws.proofs.Prefix.{prefix-trans, prefix-grown, prefix-of-grown}
+use Rattle.laws.proofs.Prefix.{prefix-grown, prefix-of-grown}
 use Rattle.laws.proofs.Rising.{less-append, rising-head, rising-tail, rising-cons}
-use Rattle.laws.proofs.Below.{covered-some, some-covered, below-each, each-below}
+use Rattle.laws.proofs.Below.{covered-some, some-covered, below-trans, each-below}
 use Rattle.laws.proofs.Settle.{none-pair}
 use Rattle.laws.proofs.Steps.{grown-same}
 use Rattle.laws.proofs.Shares.{grown-length}
@@ -66,14 +66,10 @@ module _ (d : Bool) where
       ⊎-elim (λ p. inl (some-covered r i (g .root) (g .inside) p)) (λ p. inr (subst (λ (y : Str). In y (append d i)) (g .grown ∙ sym p) (c .inside)))
       (prefix-of-grown r (g .root) d (subst (λ (y : Str). prefix r y ≡ true) (g .grown) (c .passes)))
 
-  pub append-covered : (r : Str) (i : Name) → covered r i ≡ true → covered r (append d i) ≡ true
-  append-covered r i e =
-      let c = covered-some r i e in
-      some-covered r (append d i) (c .one ▹ d) (in-append-digit i (c .one) (c .inside))
-      (prefix-trans r (c .one) (c .one ▹ d) (c .passes) (prefix-grown (c .one) d))
-
   pub below-append : (u i : Name) → below u i ≡ true → below u (append d i) ≡ true
-  below-append u i b = each-below u (append d i) (λ s j. append-covered s i (below-each u i b s j))
+  below-append u i b =
+      below-trans u i (append d i) b
+      (each-below i (append d i) (λ s j. some-covered s (append d i) (s ▹ d) (in-append-digit i s j) (prefix-grown s d)))
 
   pub append-no-pair : (i : Name) → pair (append d i) ≡ none
   append-no-pair i = none-pair (append d i) (λ s j k. no (ends s false j ∙ sym (ends s true k)))

@@ -23,15 +23,19 @@ turn k x = by (pair (x .id)) refl
 
 -- ---- at most k steps
 
-by-keeps : (P : Stamp → Type 0)
-    → ((s : Str) (x : Stamp) → Proper x → In (s ▹ false) (x .id) → In (s ▹ true) (x .id) → P x → P (settled s x))
-    → (k : ℕ) (x : Stamp) → Proper x → P x → P (reduceBy k x)
-unfolding reduceBy
-by-keeps P f zero x ok p = p
-by-keeps P f (suc k) x ok p = elim (turn k x) [
-  | done n e ↦ subst P (sym e) p
-  | goes s a b e ↦ subst P (sym e) (by-keeps P f k (settled s x) (settled-proper s x ok a b) (f s x ok a b p))
-]
+-- what every step keeps, reduction keeps
+module _ (P : Stamp → Type 0) (f : (s : Str) (x : Stamp) → Proper x → In (s ▹ false) (x .id) → In (s ▹ true) (x .id) → P x → P (settled s x)) where
+  by-keeps : (k : ℕ) (x : Stamp) → Proper x → P x → P (reduceBy k x)
+  unfolding reduceBy
+  by-keeps zero x ok p = p
+  by-keeps (suc k) x ok p = elim (turn k x) [
+    | done n e ↦ subst P (sym e) p
+    | goes s a b e ↦ subst P (sym e) (by-keeps k (settled s x) (settled-proper s x ok a b) (f s x ok a b p))
+  ]
+
+  pub reduce-keeps : (x : Stamp) → Proper x → P x → P (reduce x)
+  unfolding reduce
+  reduce-keeps x ok p = by-keeps (length (x .id)) x ok p
 
 by-steps : (k : ℕ) (x : Stamp) → Steps x (reduceBy k x)
 unfolding reduceBy
@@ -56,13 +60,6 @@ by-self zero x e = refl
 by-self (suc k) x e = rw (e, reduceBy)
 
 -- ---- reduction
-
--- what every step keeps, reduction keeps
-pub reduce-keeps : (P : Stamp → Type 0)
-    → ((s : Str) (x : Stamp) → Proper x → In (s ▹ false) (x .id) → In (s ▹ true) (x .id) → P x → P (settled s x))
-    → (x : Stamp) → Proper x → P x → P (reduce x)
-unfolding reduce
-reduce-keeps P f x ok p = by-keeps P f (length (x .id)) x ok p
 
 pub reduce-proper : (x : Stamp) → Proper x → Proper (reduce x)
 reduce-proper x ok = reduce-keeps Proper (λ s y p i j q. settled-proper s y p i j) x ok ok

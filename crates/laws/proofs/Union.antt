@@ -8,7 +8,7 @@ use Rattle.laws.proofs.Tests.{clash, decide, not-true, not-false, iff, 
 use Rattle.laws.proofs.Tests.{in-left, in-right, in-append, Some, any-some, some-any, none-any, keep-in, in-keep}
 use Rattle.laws.proofs.Prefix.{prefix-refl, prefix-trans, prefix-whole, same-is, is-same}
 use Rattle.laws.proofs.Rising.{sorted-in, in-sorted, sorted-rising}
-use Rattle.laws.proofs.Below.{covered-some, some-covered, in-covered, below-each, each-below, below-trans}
+use Rattle.laws.proofs.Below.{covered-some, some-covered, covered-below, below-each, each-below, below-trans}
 
 -- a string of l that no other string of l extends
 pub record Top (s : Str) (l : List Str) : Type 0 where
@@ -77,13 +77,21 @@ climb l (suc k) s i h = elim (decide (outgrown s l)) [
       record { one = u .one; inside = u .inside; passes = prefix-trans s t (u .one) p (u .passes) }
 ]
 
--- what a string of either covers, the union covers
-over-union : (s : Str) (m n : Name) (t : Str) → In t (m ++ n) → prefix s t ≡ true → covered s (union m n) ≡ true
+-- the union covers each string of either
+over-union : (m n : Name) (t : Str) → In t (m ++ n) → covered t (union m n) ≡ true
 unfolding union
-over-union s m n t i p =
+over-union m n t i =
     let l = m ++ n in
     let u = climb l (room l) t i (omega arith) in
-    some-covered s (union m n) (u .one) (in-sorted (kept l) (u .one) (u .inside)) (prefix-trans s t (u .one) p (u .passes))
+    some-covered t (union m n) (u .one) (in-sorted (kept l) (u .one) (u .inside)) (u .passes)
+
+-- ---- the least upper bound
+
+pub below-union-left : (m n : Name) → below m (union m n) ≡ true
+below-union-left m n = each-below m (union m n) (λ s i. over-union m n s (in-left s m n i))
+
+pub below-union-right : (m n : Name) → below n (union m n) ≡ true
+below-union-right m n = each-below n (union m n) (λ s i. over-union m n s (in-right s m n i))
 
 -- ↓(m ∪ n) is ↓m and ↓n together
 pub covered-union : (s : Str) (m n : Name) → covered s (union m n) ≡ (covered s m || covered s n)
@@ -92,18 +100,8 @@ covered-union s m n =
     (λ e. let a = covered-some s (union m n) e in
     ⊎-elim (λ h. or-left (covered s n) (some-covered s m (a .one) h (a .passes))) (λ h. or-right (covered s m) (some-covered s n (a .one) h (a .passes)))
     (in-append (a .one) m n (union-top m n (a .one) (a .inside) .inside)))
-    (λ e. ⊎-elim
-    (λ h. let a = covered-some s m h in over-union s m n (a .one) (in-left (a .one) m n (a .inside)) (a .passes))
-    (λ h. let a = covered-some s n h in over-union s m n (a .one) (in-right (a .one) m n (a .inside)) (a .passes))
+    (λ e. ⊎-elim (λ h. covered-below s m (union m n) h (below-union-left m n)) (λ h. covered-below s n (union m n) h (below-union-right m n))
     (or-cases (covered s m) (covered s n) e))
-
--- ---- the least upper bound
-
-pub below-union-left : (m n : Name) → below m (union m n) ≡ true
-below-union-left m n = each-below m (union m n) (λ s i. covered-union s m n ∙ or-left (covered s n) (in-covered s m i))
-
-pub below-union-right : (m n : Name) → below n (union m n) ≡ true
-below-union-right m n = each-below n (union m n) (λ s i. covered-union s m n ∙ or-right (covered s m) (in-covered s n i))
 
 pub union-least : (m n l : Name) → below m l ≡ true → below n l ≡ true → below (union m n) l ≡ true
 union-least m n l p q =
