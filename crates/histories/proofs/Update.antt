@@ -5,8 +5,8 @@ use Rattle.rules.specs.Strings.{Str}
 use Rattle.rules.specs.Names.{covered}
 use Rattle.rules.specs.Stamps.{update}
 use Rattle.laws.proofs.Tests.{In}
-use Rattle.laws.proofs.Below.{covered-some, in-covered, covered-below, below-each, below-refl}
-use Rattle.laws.proofs.Steps.{Proper}
+use Rattle.laws.proofs.Below.{covered-some, in-covered, covered-below, below-each}
+use Rattle.laws.proofs.Steps.{Proper, update-proper}
 use Rattle.histories.specs.Configurations.{AllPresent, Config, Sound, Under, Within, updated}
 use Rattle.histories.proofs.Config.{here, there, is-where, among, SeenIn}
 
@@ -66,11 +66,7 @@ module _ (C : Config) (q : Sound C) (a : ℕ) (pa : C .present a ≡ true) where
   a-covers y r p i = elim (is-where a y) [ here _ e ↦ rw e (in-covered r (C .stamp a .id) i) | there n e ↦ absurd (n p) ]
 
   proper-after : (x : ℕ) → C .present x ≡ true → Proper (D .stamp x)
-  unfolding update
-  proper-after x px = elim (is-where a x) [
-    | here p e ↦ let g = q .proper a pa .idRising in rw e (record { updateRising = g; idRising = g; belowId = below-refl (C .stamp a .id) })
-    | there n e ↦ rw e (q .proper x px)
-  ]
+  proper-after x px = elim (is-where a x) [ here p e ↦ rw e (update-proper (C .stamp a) (q .proper a pa)) | there n e ↦ rw e (q .proper x px) ]
 
   seen-after : SeenIn D
   unfolding update
