@@ -87,11 +87,10 @@ prefix-take zero n s t hm hn = simp leb·zero
 prefix-take (suc m) n [] t hm hn = absurd (not-suc-le-zero hm)
 prefix-take (suc m) zero (a ∷ s) t hm hn = simp leb·suc-zero
 prefix-take (suc m) (suc n) (a ∷ s) [] hm hn = absurd (not-suc-le-zero hn)
-prefix-take (suc m) (suc n) (a ∷ s) (b ∷ t) hm hn =
-    elim (decide (Bool·beq a b)) [
-      | inl e ↦ simp (e, leb·suc-suc) (prefix-take m n s t (le-of-suc-le-suc hm) (le-of-suc-le-suc hn))
-      | inr e ↦ simp (e, leb·suc-zero, and-false)
-    ]
+prefix-take (suc m) (suc n) (a ∷ s) (b ∷ t) hm hn = elim (decide (Bool·beq a b)) [
+  | inl e ↦ simp (e, leb·suc-suc) (prefix-take m n s t (le-of-suc-le-suc hm) (le-of-suc-le-suc hn))
+  | inr e ↦ simp (e, leb·suc-zero, and-false)
+]
 
 -- the same for what a caller has in hand: z is what the two words share
 pub prefix-words : (a b z : ℕ) → z ≡ common (field 64 a) (field 64 b) → (leb (a % 64) (b % 64) && leb (a % 64) z) ≡ prefix (strOf a) (strOf b)
@@ -225,16 +224,13 @@ str-word s h =
 -- the word of a word's string: what stands above the rest, and the length
 word-str : (w : ℕ) → w < 2 ^ 64 → w % 64 ≤ 58 → wordOf (strOf w) ≡ w / 2 ^ (64 - w % 64) * 2 ^ (64 - w % 64) + w % 64
 word-str w h hn =
-    word-value (strOf w)
-    ∙ ap₂ (λ (v n : ℕ). v * 2 ^ (64 - n) + n)
-    (ap value (str-top w) ∙ value-field (w % 64) (w / 2 ^ (64 - w % 64))
-    ∙ mod-eq-of-lt (div-lt-iff-lt-mul (pow-pos (64 - w % 64)) .1 (omega (arith, whole-word (w % 64) (omega arith)))))
-    (str-length w)
+    let m = 64 - w % 64 in
+    let small : w / 2 ^ m < 2 ^ (w % 64) = div-lt-iff-lt-mul (pow-pos m) .1 (omega (arith, whole-word (w % 64) (omega arith))) in
+    rw (word-value (strOf w), str-length w, str-top w, value-field (w % 64) (w / 2 ^ m), mod-eq-of-lt small)
 
 -- moved up by n digits, the m low digits remain
 moved : (x m n : ℕ) → (x * 2 ^ n) % 2 ^ (m + n) ≡ x % 2 ^ m * 2 ^ n
-moved x m n =
-    mod-pow-add (x * 2 ^ n) m n ∙ ap₂ (λ (a b : ℕ). a % 2 ^ m * 2 ^ n + b) (shl-shr x n) (mul-mod-left x (2 ^ n)) ∙ omega arith
+moved x m n = rw (mod-pow-add (x * 2 ^ n) m n, shl-shr x n, mul-mod-left x (2 ^ n)) (omega arith)
 
 -- the two tests over plain numbers: r is what stands behind the digits
 behind : (w n m q r : ℕ) → q * 2 ^ m + r ≡ w → r < 2 ^ m → n ≤ r → m + n ≡ 64
