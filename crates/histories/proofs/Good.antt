@@ -70,20 +70,17 @@ module _ (L : Limits) (room : L .digits ≤ 58) where
 
     pub good-begin : 1 ≤ n → 1 ≤ L .strings → Good L n (begin L n)
     unfolding begin freshTable
-    good-begin some strings = record {
-      size = length-set bare 0 (stored L start) ∙ length-replicate n (blank L);
-      eventsSize = length-replicate n [];
-      sound =
-          sound-same initial (configOf L (begin L n)) (λ x. present-stored L bare 0 inside start legal x ∙ only-first x)
-          (λ x p. stamp-stored L bare 0 inside start legal x room ∙ rw p) (λ x p. getD-replicate n x [] [] (omega (arith, eqb-true x 0 p))) refl sound-start;
-      shapes = shaped-stored bare 0 start inside legal (λ x p. absurd (clash p (bare-absent x)));
-      sum =
-          let held-none = ap (shareOf (L .digits)) (bare-at 0 inside) ∙ share-blank L (L .digits) in
-          omega (arith, sum-stored L room (L .digits) bare 0 start inside legal, sum-blank L (L .digits) n, share-start (L .digits));
-    }
-      where
-        legal : lawful L start ≡ true
-        legal = lawful-start L strings
-
-        inside : 0 < length bare
-        inside = omega (arith, length-replicate n (blank L))
+    good-begin some strings =
+        let legal = lawful-start L strings in
+        let inside : 0 < length bare = omega (arith, length-replicate n (blank L)) in
+        record {
+          size = length-set bare 0 (stored L start) ∙ length-replicate n (blank L);
+          eventsSize = length-replicate n [];
+          sound =
+              sound-same initial (configOf L (begin L n)) (λ x. present-stored L bare 0 inside start legal x ∙ only-first x)
+              (λ x p. stamp-stored L bare 0 inside start legal x room ∙ rw p) (λ x p. getD-replicate n x [] [] (omega (arith, eqb-true x 0 p))) refl sound-start;
+          shapes = shaped-stored bare 0 start inside legal (λ x p. absurd (clash p (bare-absent x)));
+          sum =
+              let held-none = ap (shareOf (L .digits)) (bare-at 0 inside) ∙ share-blank L (L .digits) in
+              omega (arith, sum-stored L room (L .digits) bare 0 start inside legal, sum-blank L (L .digits) n, share-start (L .digits));
+        }

@@ -1,7 +1,7 @@
 -- The stored shape: a record that has it tells its stamp, each lawful stamp has one, and none of them is all zeros.
 -- A word tells its string, and a record is the same as another when its numbers are. Assumes nothing.
-use Rattle.laws.proofs.Library.{_≡_, refl, sym, ap, ap₂, _∙_, subst, true, false, not, List, [], _∷_, map, inl, inr, ℕ, _-_, _≤_, arith, eqb-true}
-use Rattle.laws.proofs.Library.{eq-eqb, eqb, length, replicate, length-map, take-at}
+use Rattle.laws.proofs.Library.{_≡_, refl, ap, ap₂, _∙_, true, false, not, List, [], _∷_, map, inl, inr, ℕ, _-_, _≤_, arith, eqb-true, eq-eqb, eqb}
+use Rattle.laws.proofs.Library.{length, replicate, length-map, take-at}
 use Rattle.rules.specs.Limits.{Limits}
 use Rattle.rules.specs.Strings.{Str, wordOf, strOf}
 use Rattle.rules.specs.Names.{Name, isName}
@@ -75,10 +75,7 @@ module _ (L : Limits) (room : L .digits ≤ 58) where
 
   pub is-stored : (x : Stamp) → lawful L x ≡ true → isStored L (stored L x) ≡ true
   unfolding isStored
-  is-stored x h =
-      let e = held-stored x h in
-      and-both (subst (λ (y : Stamp). lawful L y ≡ true) (sym e) h)
-      (subst (λ (y : Stamp). sameRecord (stored L x) (stored L y) ≡ true) (sym e) (records-refl (stored L x)))
+  is-stored x h = rw (held-stored x h) (and-both h (records-refl (stored L x)))
 
 module _ (L : Limits) (w : Words) (h : isStoredName L w ≡ true) where
   pub stored-name : isName L (strsIn w) ≡ true
