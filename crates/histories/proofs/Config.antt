@@ -106,7 +106,8 @@ module _ (C D : Config) (old : ℕ → List ℕ) (m : Reads C D old) (q : Sound 
   reads-nonempty x p =
       let y = m .one x p in
       let s = q .nonempty (y .0) (m .slots x (y .0) p (y .1)) in
-      let t = covered-some (s .0) (D .stamp x .update) (below-each (C .stamp (y .0) .update) (D .stamp x .update) (m .updateOn x (y .0) p (y .1)) (s .0) (s .1)) in
+      let e = below-each (C .stamp (y .0) .update) (D .stamp x .update) (m .updateOn x (y .0) p (y .1)) (s .0) (s .1) in
+      let t = covered-some (s .0) (D .stamp x .update) e in
       (t .one, t .inside)
 
   reads-fresh : (x e : ℕ) → D .present x ≡ true → In e (D .events x) → e < D .next

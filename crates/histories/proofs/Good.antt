@@ -78,7 +78,8 @@ module _ (L : Limits) (room : L .digits ≤ 58) where
           eventsSize = length-replicate n [];
           sound =
               sound-same initial (configOf L (begin L n)) (λ x. present-stored L bare 0 inside start legal x ∙ only-first x)
-              (λ x p. stamp-stored L bare 0 inside start legal x room ∙ rw p) (λ x p. getD-replicate n x [] [] (omega (arith, eqb-true x 0 p))) refl sound-start;
+              (λ x p. stamp-stored L bare 0 inside start legal x room ∙ rw p)
+              (λ x p. getD-replicate n x [] [] (omega (arith, eqb-true x 0 p))) refl sound-start;
           shapes = shaped-stored bare 0 start inside legal (λ x p. absurd (clash p (bare-absent x)));
           sum =
               let held-none = ap (shareOf (L .digits)) (bare-at 0 inside) ∙ share-blank L (L .digits) in
