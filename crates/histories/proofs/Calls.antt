@@ -3,11 +3,10 @@
 use Rattle.laws.proofs.Library.{_≡_, refl, sym, ap, _∙_, subst, List, [], _∷_, _++_, append-assoc, ℕ, _≤_, arith, eqb, ltb, length, eqb-false, ltb-false}
 use Rattle.rules.specs.Limits.{Limits, narrow, records}
 use Rattle.rules.specs.Refusals.{first}
-use Rattle.rules.specs.Tables.{Table, Step, badSize, freshTable, makeFresh, updateAt, forkAt, joinAt}
+use Rattle.rules.specs.Tables.{Table, badSize, freshTable, makeFresh, updateAt, forkAt, joinAt}
 use Rattle.rules.specs.Histories.{Call, World, afterUpdate, afterFork, afterJoin, after, afterAll, begin, history, callTable, callsTable, beside}
 use Rattle.rules.specs.Traces.{Text, Line, update, fork, join, compare, spare, unreadable, lineText, lineTable, tracedFrom, traced}
 use Rattle.rules.specs.Promises.{Right, MadeByCalls, RightByCalls}
-use Rattle.rules.specs.declared.Slot.{Slot}
 use Rattle.rules.specs.declared.Slot.the-variants.{At, Refused}
 use Rattle.laws.proofs.Tests.{not-true, clash, or-left, or-right}
 use Rattle.histories.specs.Lines.{callsOf, linesTable, reached, RightTraced}
@@ -15,24 +14,15 @@ use Rattle.histories.proofs.Every.{every-history-at}
 
 -- ---- calls
 
-update-table : (w : World) (a : ℕ) (s : Step) (x : Slot) → afterUpdate w a s x .table ≡ s .table
-update-table w a s (At b) = refl
-update-table w a s (Refused r) = refl
-
-fork-table : (w : World) (a : ℕ) (s : Step) (x : Slot) → afterFork w a s x .table ≡ s .table
-fork-table w a s (At b) = refl
-fork-table w a s (Refused r) = refl
-
-join-table : (w : World) (a b : ℕ) (s : Step) (x : Slot) → afterJoin w a b s x .table ≡ s .table
-join-table w a b s (At c) = refl
-join-table w a b s (Refused r) = refl
-
 module _ (L : Limits) where
   after-table : (w : World) (c : Call) → after L w c .table ≡ callTable L (w .table) c
   unfolding after callTable
-  after-table w (Call.update a) = let s = updateAt L (w .table) a in update-table w a s (s .answer)
-  after-table w (Call.fork a) = let s = forkAt L (w .table) a in fork-table w a s (s .answer)
-  after-table w (Call.join a b) = let s = joinAt L (w .table) a b in join-table w a b s (s .answer)
+  after-table w (Call.update a) =
+      let s = updateAt L (w .table) a in elim (s .answer) as (λ x. afterUpdate w a s x .table ≡ s .table) [ At b ↦ refl | Refused r ↦ refl ]
+  after-table w (Call.fork a) =
+      let s = forkAt L (w .table) a in elim (s .answer) as (λ x. afterFork w a s x .table ≡ s .table) [ At b ↦ refl | Refused r ↦ refl ]
+  after-table w (Call.join a b) =
+      let s = joinAt L (w .table) a b in elim (s .answer) as (λ x. afterJoin w a b s x .table ≡ s .table) [ At c ↦ refl | Refused r ↦ refl ]
   after-table w (Call.compare a b) = refl
 
   after-all-table : (w : World) (cs : List Call) → afterAll L w cs .table ≡ callsTable L (w .table) cs
@@ -56,13 +46,10 @@ module _ (L : Limits) where
 
     pub right-by-calls-at : RightByCalls L
     unfolding badSize
-    right-by-calls-at t cs fits = right-beside (length t) cs (callsTable L (makeFresh L t .table) cs) some few (made-by-calls t fits .1 cs)
-      where
-        some : 1 ≤ length t
-        some = let e = eqb-false (length t) 0 (not-true (λ h. clash (or-left (ltb records (length t)) h) fits)) in omega arith
-
-        few : length t ≤ records
-        few = ltb-false records (length t) (not-true (λ h. clash (or-right (eqb (length t) 0) h) fits))
+    right-by-calls-at t cs fits =
+        let e = eqb-false (length t) 0 (not-true (λ h. clash (or-left (ltb records (length t)) h) fits)) in
+        let few = ltb-false records (length t) (not-true (λ h. clash (or-right (eqb (length t) 0) h) fits)) in
+        right-beside (length t) cs (callsTable L (makeFresh L t .table) cs) (omega arith) few (made-by-calls t fits .1 cs)
 
   -- ---- lines
 

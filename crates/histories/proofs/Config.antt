@@ -1,12 +1,12 @@
 -- Configurations: what each slot holds, with no limits, and what every history keeps of it (Invariants 4.4 to 4.6 and Proposition 5.1
 -- of the paper). It survives forgetting slots, and a step that moves copies without changing what they know. Assumes nothing.
-use Rattle.laws.proofs.Library.{_≡_, refl, sym, ap, _∙_, subst, Bool, true, false, cond, List, [], _∷_, _++_, inl, inr, ⊎-elim, ℕ, _≤_, _<_, arith, eqb}
-use Rattle.laws.proofs.Library.{length, eqb-true, eqb-false}
+use Rattle.laws.proofs.Library.{_≡_, refl, sym, ap, _∙_, subst, Bool, true, false, List, [], _∷_, _++_, inl, inr, ⊎-elim, ℕ, _≤_, _<_, arith, eqb, length}
+use Rattle.laws.proofs.Library.{eqb-true, eqb-false}
 use Rattle.rules.specs.Strings.{Str, prefix}
-use Rattle.rules.specs.Names.{all, rising, covered}
-use Rattle.rules.specs.Stamps.{Stamp, start}
-use Rattle.laws.proofs.Tests.{In, in-left, in-right, in-append}
-use Rattle.laws.proofs.Below.{covered-some, some-covered, in-covered, covered-down, below-refl}
+use Rattle.rules.specs.Names.{all, rising, covered, below}
+use Rattle.rules.specs.Stamps.{Stamp}
+use Rattle.laws.proofs.Tests.{decide, In, in-filled, in-left, in-right, in-append}
+use Rattle.laws.proofs.Below.{below-each, covered-below, covered-some, some-covered, in-covered, covered-down, below-refl}
 use Rattle.laws.proofs.Steps.{Proper}
 use Rattle.histories.specs.Configurations.{AllPresent, Among, Config, Covers, Seen, Sound, Under, Within, initial, restricted}
 
@@ -16,15 +16,26 @@ pub data Where (a x : ℕ) : Type 0 where
   there : (x ≡ a → ⊥) → eqb x a ≡ false → Where a x
 
 pub is-where : (a x : ℕ) → Where a x
-is-where a x = by (eqb x a) refl
-  where
-    by : (b : Bool) → eqb x a ≡ b → Where a x
-    by true e = here (eqb-true x a e) e
-    by false e = there (eqb-false x a e) e
+is-where a x = elim (decide (eqb x a)) [ inl e ↦ here (eqb-true x a e) e | inr e ↦ there (eqb-false x a e) e ]
 
 -- and what passes one test there passes another
 pub among : {S : List ℕ} {P Q : ℕ → Type 0} → ((b : ℕ) → In b S → P b → Q b) → Among S P → Among S Q
 among f a = record { slot = a .slot; inside = a .inside; holds = f (a .slot) (a .inside) (a .holds) }
+
+-- a string that x's update name covers is below that of S too
+pub under-covered : (C : Config) (x : ℕ) (S : List ℕ) → Under C x S → (r : Str) → covered r (C .stamp x .update) ≡ true → Covers C S r
+under-covered C x S u r h =
+    let t = covered-some r (C .stamp x .update) h in
+    among (λ b i k. covered-down r (t .one) (C .stamp b .update) (t .passes) k) (u (t .one) (t .inside))
+
+-- Invariants 4.5 and 4.6
+abbrev pub ApartIn : Config → Type 0
+ApartIn C = (a b : ℕ) (s t : Str) → C .present a ≡ true → C .present b ≡ true → In s (C .stamp a .id) → In t (C .stamp b .id) → prefix s t ≡ true
+    → (a ≡ b) × (s ≡ t)
+
+abbrev pub SeenIn : Config → Type 0
+SeenIn C = (a b : ℕ) (r : Str) → C .present a ≡ true → C .present b ≡ true → In r (C .stamp a .update) → covered r (C .stamp b .id) ≡ true
+    → covered r (C .stamp b .update) ≡ true
 
 -- ---- copies that moved: each slot of D holds what some slots of C held, taken together
 
@@ -34,7 +45,7 @@ pub record Reads (C D : Config) (old : ℕ → List ℕ) : Type 0 where
   pub eventsBack : (x e : ℕ) → D .present x ≡ true → In e (D .events x) → Seen C (old x) e
   pub eventsOn : (x y e : ℕ) → D .present x ≡ true → In y (old x) → In e (C .events y) → In e (D .events x)
   pub updateBack : (x : ℕ) (r : Str) → D .present x ≡ true → In r (D .stamp x .update) → Among (old x) (λ y. In r (C .stamp y .update))
-  pub updateOn : (x y : ℕ) (r : Str) → D .present x ≡ true → In y (old x) → In r (C .stamp y .update) → covered r (D .stamp x .update) ≡ true
+  pub updateOn : (x y : ℕ) → D .present x ≡ true → In y (old x) → below (C .stamp y .update) (D .stamp x .update) ≡ true
   pub next : D .next ≡ C .next
 
 pub in-one : {A : Type 0} (x y : A) → In y (x ∷ []) → y ≡ x
@@ -63,21 +74,12 @@ first-of : (S : List ℕ) → 1 ≤ length S → (b : ℕ) × In b S
 first-of [] h = absurd (omega arith)
 first-of (b ∷ S) h = (b, inl refl)
 
-some-length : (S : List ℕ) (b : ℕ) → In b S → 1 ≤ length S
-some-length [] b i = absurd i
-some-length (x ∷ S) b i = omega arith
-
 module _ (C D : Config) (old : ℕ → List ℕ) (m : Reads C D old) (q : Sound C) where
   -- what D's name covers, one of the old names covers
-  pub covered-back : (x : ℕ) (r : Str) → D .present x ≡ true → covered r (D .stamp x .update) ≡ true → Covers C (old x) r
+  covered-back : (x : ℕ) (r : Str) → D .present x ≡ true → covered r (D .stamp x .update) ≡ true → Covers C (old x) r
   covered-back x r p e =
       let t = covered-some r (D .stamp x .update) e in
       among (λ y i h. some-covered r (C .stamp y .update) (t .one) h (t .passes)) (m .updateBack x (t .one) p (t .inside))
-
-  pub covered-on : (x y : ℕ) (r : Str) → D .present x ≡ true → In y (old x) → covered r (C .stamp y .update) ≡ true → covered r (D .stamp x .update) ≡ true
-  covered-on x y r p i e =
-      let t = covered-some r (C .stamp y .update) e in
-      covered-down r (t .one) (D .stamp x .update) (t .passes) (m .updateOn x y (t .one) p i (t .inside))
 
   module _ (S : List ℕ) (g : AllPresent D S) where
     all-back : AllPresent C (gather old S)
@@ -87,55 +89,59 @@ module _ (C D : Config) (old : ℕ → List ℕ) (m : Reads C D old) (q : Sound 
     some-back h =
         let b = first-of S h in
         let y = m .one (b .0) (g (b .0) (b .1)) in
-        some-length (gather old S) (y .0) (in-gather old S (b .0) (y .0) (b .1) (y .1))
+        in-filled (y .0) (gather old S) (in-gather old S (b .0) (y .0) (b .1) (y .1))
 
-    seen-back : (e : ℕ) → Seen D S e → Seen C (gather old S) e
-    seen-back e a =
-        let b = m .eventsBack (a .slot) e (g (a .slot) (a .inside)) (a .holds) in
+    -- what a slot of S passes by what its old slots pass, one of all these passes
+    back : {P Q : ℕ → Type 0} → ((x : ℕ) → D .present x ≡ true → Q x → Among (old x) P) → Among S Q → Among (gather old S) P
+    back f a =
+        let b = f (a .slot) (g (a .slot) (a .inside)) (a .holds) in
         record { slot = b .slot; inside = in-gather old S (a .slot) (b .slot) (a .inside) (b .inside); holds = b .holds }
 
-    seen-on : (e : ℕ) → Seen C (gather old S) e → Seen D S e
-    seen-on e a =
+    on : {P Q : ℕ → Type 0} → ((x y : ℕ) → D .present x ≡ true → In y (old x) → P y → Q x) → Among (gather old S) P → Among S Q
+    on f a =
         let b = gather-in old S (a .slot) (a .inside) in
-        record { slot = b .slot; inside = b .inside; holds = m .eventsOn (b .slot) (a .slot) e (g (b .slot) (b .inside)) (b .holds) (a .holds) }
+        record { slot = b .slot; inside = b .inside; holds = f (b .slot) (a .slot) (g (b .slot) (b .inside)) (b .holds) (a .holds) }
 
-    covers-back : (r : Str) → Covers D S r → Covers C (gather old S) r
-    covers-back r a =
-        let b = covered-back (a .slot) r (g (a .slot) (a .inside)) (a .holds) in
-        record { slot = b .slot; inside = in-gather old S (a .slot) (b .slot) (a .inside) (b .inside); holds = b .holds }
-
-    covers-on : (r : Str) → Covers C (gather old S) r → Covers D S r
-    covers-on r a =
-        let b = gather-in old S (a .slot) (a .inside) in
-        record { slot = b .slot; inside = b .inside; holds = covered-on (b .slot) (a .slot) r (g (b .slot) (b .inside)) (b .holds) (a .holds) }
-
-  pub reads-nonempty : (x : ℕ) → D .present x ≡ true → (s : Str) × In s (D .stamp x .update)
+  reads-nonempty : (x : ℕ) → D .present x ≡ true → (s : Str) × In s (D .stamp x .update)
   reads-nonempty x p =
       let y = m .one x p in
       let s = q .nonempty (y .0) (m .slots x (y .0) p (y .1)) in
-      let t = covered-some (s .0) (D .stamp x .update) (m .updateOn x (y .0) (s .0) p (y .1) (s .1)) in
+      let e = below-each (C .stamp (y .0) .update) (D .stamp x .update) (m .updateOn x (y .0) p (y .1)) (s .0) (s .1) in
+      let t = covered-some (s .0) (D .stamp x .update) e in
       (t .one, t .inside)
 
-  pub reads-fresh : (x e : ℕ) → D .present x ≡ true → In e (D .events x) → e < D .next
+  reads-fresh : (x e : ℕ) → D .present x ≡ true → In e (D .events x) → e < D .next
   reads-fresh x e p i =
       let a = m .eventsBack x e p i in
       subst (λ (n : ℕ). e < n) (sym (m .next)) (q .fresh (a .slot) e (m .slots x (a .slot) p (a .inside)) (a .holds))
 
   -- one more event that S has seen is one more of each old slot, and so with the strings
-  pub reads-known : (x : ℕ) (S : List ℕ) → D .present x ≡ true → AllPresent D S → 1 ≤ length S → Within D x S → Under D x S
+  reads-known : (x : ℕ) (S : List ℕ) → D .present x ≡ true → AllPresent D S → 1 ≤ length S → Within D x S → Under D x S
   reads-known x S p g h w r i =
       let a = m .updateBack x r p i in
-      covers-on S g r
+      on S g (λ y z o j k. covered-below r (C .stamp z .update) (D .stamp y .update) k (m .updateOn y z o j))
       (q .known (a .slot) (gather old S) (m .slots x (a .slot) p (a .inside)) (all-back S g) (some-back S g h)
-      (λ e j. seen-back S g e (w e (m .eventsOn x (a .slot) e p (a .inside) j))) r (a .holds))
+      (λ e j. back S g (λ y o k. m .eventsBack y e o k) (w e (m .eventsOn x (a .slot) e p (a .inside) j))) r (a .holds))
 
-  pub reads-shown : (x : ℕ) (S : List ℕ) → D .present x ≡ true → AllPresent D S → 1 ≤ length S → Under D x S → Within D x S
+  reads-shown : (x : ℕ) (S : List ℕ) → D .present x ≡ true → AllPresent D S → 1 ≤ length S → Under D x S → Within D x S
   reads-shown x S p g h u e i =
       let a = m .eventsBack x e p i in
-      seen-on S g e
+      on S g (λ y z o j k. m .eventsOn y z e o j k)
       (q .shown (a .slot) (gather old S) (m .slots x (a .slot) p (a .inside)) (all-back S g) (some-back S g h)
-      (λ r j. let t = covered-some r (D .stamp x .update) (m .updateOn x (a .slot) r p (a .inside) j) in
-      among (λ b k c. covered-down r (t .one) (C .stamp b .update) (t .passes) c) (covers-back S g (t .one) (u (t .one) (t .inside)))) e (a .holds))
+      (λ r j. back S g (λ y o k. covered-back y r o k) (under-covered D x S u r
+      (below-each (C .stamp (a .slot) .update) (D .stamp x .update) (m .updateOn x (a .slot) p (a .inside)) r j))) e (a .holds))
+
+  -- the rest of what a sound configuration has
+  pub reads-sound : ((a : ℕ) → D .present a ≡ true → Proper (D .stamp a)) → ApartIn D → SeenIn D → Sound D
+  reads-sound proper apart seen = record {
+    proper = proper;
+    nonempty = reads-nonempty;
+    apart = apart;
+    seen = seen;
+    fresh = reads-fresh;
+    known = reads-known;
+    shown = reads-shown;
+  }
 
 -- ---- each slot of D holds what one slot of C held
 
@@ -152,7 +158,7 @@ moved-reads C D old m = record {
   eventsBack = λ x e p i. record { slot = old x; inside = inl refl; holds = rw (m .sets x p) at i };
   eventsOn = λ x y e p i j. rw (m .sets x p) (rw (in-one (old x) y i) at j);
   updateBack = λ x r p i. record { slot = old x; inside = inl refl; holds = rw (m .updates x p) at i };
-  updateOn = λ x y r p i j. in-covered r (D .stamp x .update) (rw (m .updates x p) (rw (in-one (old x) y i) at j));
+  updateOn = λ x y p i. rw (m .updates x p, in-one (old x) y i) (below-refl (C .stamp (old x) .update));
   next = m .next;
 }
 
@@ -166,21 +172,13 @@ pub record Part (C D : Config) : Type 0 where
   pub next : D .next ≡ C .next
 
 pub sound-part : (C D : Config) → Part C D → Sound C → Sound D
-sound-part C D m q = record {
-  proper = λ a p. rw (m .stamps a p) (q .proper a (m .slots a p));
-  nonempty = reads-nonempty C D (λ x. x ∷ []) reads q;
-  apart = λ a b s t p o i j. q .apart a b s t (m .slots a p) (m .slots b o) (rw (m .stamps a p) at i) (rw (m .stamps b o) at j);
-  seen = λ a b r p o i e.
-      rw (m .stamps b o) (q .seen a b r (m .slots a p) (m .slots b o) (rw (m .stamps a p) at i) (rw (m .stamps b o) at e));
-  fresh = reads-fresh C D (λ x. x ∷ []) reads q;
-  known = reads-known C D (λ x. x ∷ []) reads q;
-  shown = reads-shown C D (λ x. x ∷ []) reads q;
-}
-  where
-    reads : Reads C D (λ x. x ∷ [])
-    reads =
-        moved-reads C D (λ x. x)
-        (record { slots = m .slots; updates = λ x p. ap (λ (z : Stamp). z .update) (m .stamps x p); sets = m .sets; next = m .next })
+sound-part C D m q =
+    reads-sound C D (λ x. x ∷ [])
+    (moved-reads C D (λ x. x)
+    (record { slots = m .slots; updates = λ x p. ap (λ (z : Stamp). z .update) (m .stamps x p); sets = m .sets; next = m .next })) q
+    (λ a p. rw (m .stamps a p) (q .proper a (m .slots a p)))
+    (λ a b s t p o i j. q .apart a b s t (m .slots a p) (m .slots b o) (rw (m .stamps a p) at i) (rw (m .stamps b o) at j))
+    (λ a b r p o i e. rw (m .stamps b o) (q .seen a b r (m .slots a p) (m .slots b o) (rw (m .stamps a p) at i) (rw (m .stamps b o) at e)))
 
 -- what absent slots hold makes no difference
 pub sound-same : (C D : Config) → ((x : ℕ) → D .present x ≡ C .present x) → ((x : ℕ) → C .present x ≡ true → D .stamp x ≡ C .stamp x)

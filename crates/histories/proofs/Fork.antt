@@ -7,10 +7,11 @@ use Rattle.rules.specs.Stamps.{append, fork}
 use Rattle.laws.proofs.Tests.{clash, In}
 use Rattle.laws.proofs.Prefix.{prefix-trans, prefix-grown, prefix-of-grown, grown-not-prefix}
 use Rattle.laws.proofs.Below.{covered-some, below-each}
-use Rattle.laws.proofs.Fork.{grown-is, Grown, append-in, append-rising, covered-append, below-append}
+use Rattle.laws.proofs.Fork.{grown-is, Grown, append-in, covered-append}
 use Rattle.laws.proofs.Steps.{Proper}
+use Rattle.laws.proofs.Lawful.{fork-proper}
 use Rattle.histories.specs.Configurations.{Config, Sound, forked, put}
-use Rattle.histories.proofs.Config.{Where, here, there, is-where, Reads, Moved, moved-reads, reads-nonempty, reads-fresh, reads-known, reads-shown}
+use Rattle.histories.proofs.Config.{here, there, is-where, ApartIn, SeenIn, Moved, moved-reads, reads-sound}
 
 -- a string and the one that it was grown from
 root-prefix : (d : Bool) (i : Name) (x : Str) (g : Grown d i x) → prefix (g .root) x ≡ true
@@ -39,23 +40,15 @@ module _ (C : Config) (q : Sound C) (a b : ℕ) (pa : C .present a ≡ true) whe
 
   moved : Moved C D old
   unfolding fork
-  moved = record { slots = λ x. at x (is-where b x); updates = λ x p. by x (is-where b x) (is-where a x); sets = λ x p. events x (is-where b x); next = refl }
-    where
-      at : (x : ℕ) → Where b x → D .present x ≡ true → C .present (old x) ≡ true
-      at x (here e c) p = rw c pa
-      at x (there n c) p = rw c (rw c at p)
-
-      by : (x : ℕ) → Where b x → Where a x → D .stamp x .update ≡ C .stamp (old x) .update
-      by x (here e c) w = rw c
-      by x (there n c) (here e k) = rw (c, k, e)
-      by x (there n c) (there m k) = rw (c, k)
-
-      events : (x : ℕ) → Where b x → D .events x ≡ C .events (old x)
-      events x (here e c) = rw c
-      events x (there n c) = rw c
-
-  reads : Reads C D (λ x. old x ∷ [])
-  reads = moved-reads C D old moved
+  moved = record {
+    slots = λ x p. elim (is-where b x) [ here e c ↦ rw c pa | there n c ↦ rw c (rw c at p) ];
+    updates = λ x p. elim (is-where b x) [
+      | here e c ↦ rw c
+      | there n c ↦ elim (is-where a x) [ here e k ↦ rw (c, k, e) | there m k ↦ rw (c, k) ]
+    ];
+    sets = λ x p. elim (is-where b x) [ here e c ↦ rw c | there n c ↦ rw c ];
+    next = refl;
+  }
 
   -- a slot holds a branch of a, or what it held
   data Place (x : ℕ) : Type 0 where
@@ -63,27 +56,13 @@ module _ (C : Config) (q : Sound C) (a b : ℕ) (pa : C .present a ≡ true) whe
     other : (x ≡ a → ⊥) → C .present x ≡ true → D .stamp x ≡ C .stamp x → Place x
 
   place : (x : ℕ) → D .present x ≡ true → Place x
-  place x p = by (is-where b x) (is-where a x)
-    where
-      by : Where b x → Where a x → Place x
-      by (here e c) w = branch true e (rw c)
-      by (there n c) (here e k) = branch false e (rw (c, k))
-      by (there n c) (there m k) = other m (rw c at p) (rw (c, k))
+  place x p = elim (is-where b x) [
+    | here e c ↦ branch true e (rw c)
+    | there n c ↦ elim (is-where a x) [ here e k ↦ branch false e (rw (c, k)) | there m k ↦ other m (rw c at p) (rw (c, k)) ]
+  ]
 
   proper-after : (x : ℕ) → D .present x ≡ true → Proper (D .stamp x)
-  unfolding fork
-  proper-after x p = by (place x p)
-    where
-      by : Place x → Proper (D .stamp x)
-      by (branch d h e) =
-          let g = q .proper a pa in
-          rw e
-          (record {
-            updateRising = g .updateRising;
-            idRising = append-rising d (C .stamp a .id) (g .idRising);
-            belowId = below-append d (C .stamp a .update) (C .stamp a .id) (g .belowId);
-          })
-      by (other n o e) = rw e (q .proper x o)
+  proper-after x p = elim (place x p) [ branch d h e ↦ rw e (fork-proper d (C .stamp a) (q .proper a pa)) | other n o e ↦ rw e (q .proper x o) ]
 
   -- two id strings of which one is a prefix of the other
   module _ (s t : Str) (e : prefix s t ≡ true) where
@@ -110,8 +89,7 @@ module _ (C : Config) (q : Sound C) (a b : ℕ) (pa : C .present a ≡ true) whe
         (λ h. (grown-is (f .root) (g .root) c d (sym (f .grown) ∙ h) .1, h ∙ sym (g .grown)))
         (prefix-of-root d (C .stamp a .id) t g s e)
 
-  apart-after : (x y : ℕ) (s t : Str) → D .present x ≡ true → D .present y ≡ true → In s (D .stamp x .id) → In t (D .stamp y .id)
-      → prefix s t ≡ true → (x ≡ y) × (s ≡ t)
+  apart-after : ApartIn D
   unfolding fork
   apart-after x y s t px py i j e = by (place x px) (place y py)
     where
@@ -129,34 +107,19 @@ module _ (C : Config) (q : Sound C) (a b : ℕ) (pa : C .present a ≡ true) whe
       let p : prefix (g .root ▹ d) (t .one) ≡ true = subst (λ (x : Str). prefix x (t .one) ≡ true) (g .grown) (t .passes) in
       too-long (g .root) (t .one) d (λ l. q .apart a z (g .root) (t .one) pa pz (g .inside) (t .inside) l .1) p
 
-  seen-after : (x y : ℕ) (r : Str) → D .present x ≡ true → D .present y ≡ true → In r (D .stamp x .update) → covered r (D .stamp y .id) ≡ true
-      → covered r (D .stamp y .update) ≡ true
+  seen-after : SeenIn D
   unfolding fork
-  seen-after x y r px py i h = by (place y py)
-    where
-      z : ℕ
-      z = old x
-
-      pz : C .present z ≡ true
-      pz = moved .slots x px
-
-      k : In r (C .stamp z .update)
-      k = rw (moved .updates x px) at i
-
-      by : Place y → covered r (D .stamp y .update) ≡ true
-      by (other n o e) = rw e (q .seen z y r pz o k (rw e at h))
-      by (branch d f e) =
-          rw e
-          (⊎-elim (λ u. q .seen z a r pz pa k u) (λ u. absurd (unused z r d pz k u))
-          (covered-append d r (C .stamp a .id) (let v : covered r (append d (C .stamp a .id)) ≡ true = rw e at h in v)))
+  seen-after x y r px py i h =
+      let z : ℕ = old x in
+      let pz : C .present z ≡ true = moved .slots x px in
+      let k : In r (C .stamp z .update) = rw (moved .updates x px) at i in
+      elim (place y py) [
+        | other n o e ↦ rw e (q .seen z y r pz o k (rw e at h))
+        | branch d f e ↦
+            rw e
+            (⊎-elim (λ u. q .seen z a r pz pa k u) (λ u. absurd (unused z r d pz k u))
+            (covered-append d r (C .stamp a .id) (let v : covered r (append d (C .stamp a .id)) ≡ true = rw e at h in v)))
+      ]
 
   pub fork-sound : Sound (forked a b C)
-  fork-sound = record {
-    proper = proper-after;
-    nonempty = reads-nonempty C D (λ x. old x ∷ []) reads q;
-    apart = apart-after;
-    seen = seen-after;
-    fresh = reads-fresh C D (λ x. old x ∷ []) reads q;
-    known = reads-known C D (λ x. old x ∷ []) reads q;
-    shown = reads-shown C D (λ x. old x ∷ []) reads q;
-  }
+  fork-sound = reads-sound C D (λ x. old x ∷ []) (moved-reads C D old moved) q proper-after apart-after seen-after

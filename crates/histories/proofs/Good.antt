@@ -13,8 +13,9 @@ use Rattle.laws.proofs.Tests.{clash, not-true, not-is}
 use Rattle.laws.proofs.Lawful.{lawful-start}
 use Rattle.laws.proofs.Stored.{is-stored, blank-absent}
 use Rattle.histories.specs.Configurations.{Config, Sound, initial, put}
-use Rattle.histories.proofs.Config.{Where, here, there, is-where, sound-same, sound-start}
-use Rattle.histories.proofs.Tables.{present-size, present-there, at-put, present-stored, stamp-stored, shareOf, share-blank, sum-blank, sum-stored, share-start}
+use Rattle.histories.proofs.Config.{here, there, is-where, sound-same, sound-start}
+use Rattle.histories.proofs.Tables.{present-size, present-there, at-put, present-stored, stamp-stored, shareOf, share-blank, sum-blank, sum-stored}
+use Rattle.histories.proofs.Tables.{share-start}
 
 -- what the slots hold, with no limits
 abbrev pub configOf : Limits → World → Config
@@ -36,14 +37,13 @@ pub record Good (L : Limits) (n : ℕ) (w : World) : Type 0 where
 -- of nothing, or of a stored shape
 shaped-set : (L : Limits) (t : Table) (a : ℕ) (r : Record) → a < length t → (absent L r ≡ false → isStored L r ≡ true) → Shaped L t → Shaped L (set t a r)
 unfolding noSlot
-shaped-set L t a r h ok s x p = rw (at-put L t a h r x) (by (is-where a x))
-  where
-    q : not (leb (length t) x || absent L (put a r (at t) x)) ≡ true
-    q = rw (length-set t a r, at-put L t a h r x) at p
-
-    by : Where a x → isStored L (put a r (at t) x) ≡ true
-    by (here m e) = rw e (ok (not-is (let k : not (absent L r) ≡ true = rw (e, m, lt-leb (length t) a h) at q in k)))
-    by (there m e) = rw e (s x (rw e at q))
+shaped-set L t a r h ok s x p =
+    let q : not (leb (length t) x || absent L (put a r (at t) x)) ≡ true = rw (length-set t a r, at-put L t a h r x) at p in
+    rw (at-put L t a h r x)
+    (elim (is-where a x) [
+      | here m e ↦ rw e (ok (not-is (let k : not (absent L r) ≡ true = rw (e, m, lt-leb (length t) a h) at q in k)))
+      | there m e ↦ rw e (s x (rw e at q))
+    ])
 
 pub shaped-blank : (L : Limits) (t : Table) (a : ℕ) → a < length t → Shaped L t → Shaped L (set t a (blank L))
 shaped-blank L t a h = shaped-set L t a (blank L) h (λ e. absurd (clash (blank-absent L) e))
@@ -66,28 +66,22 @@ module _ (L : Limits) (room : L .digits ≤ 58) where
     bare-absent x = not-true (λ p. clash (ap (absent L) (bare-at x (present-size L bare x p)) ∙ blank-absent L) (present-there L bare x p))
 
     only-first : (x : ℕ) → put 0 true (present L bare) x ≡ eqb x 0
-    only-first x = by (is-where 0 x)
-      where
-        by : Where 0 x → put 0 true (present L bare) x ≡ eqb x 0
-        by (here p e) = rw e
-        by (there m e) = rw e (bare-absent x)
+    only-first x = elim (is-where 0 x) [ here p e ↦ rw e | there m e ↦ rw e (bare-absent x) ]
 
     pub good-begin : 1 ≤ n → 1 ≤ L .strings → Good L n (begin L n)
     unfolding begin freshTable
-    good-begin some strings = record {
-      size = length-set bare 0 (stored L start) ∙ length-replicate n (blank L);
-      eventsSize = length-replicate n [];
-      sound =
-          sound-same initial (configOf L (begin L n)) (λ x. present-stored L bare 0 inside start legal x ∙ only-first x)
-          (λ x p. stamp-stored L bare 0 inside start legal x room ∙ rw p) (λ x p. getD-replicate n x [] [] (omega (arith, eqb-true x 0 p))) refl sound-start;
-      shapes = shaped-stored bare 0 start inside legal (λ x p. absurd (clash p (bare-absent x)));
-      sum =
-          let held-none = ap (shareOf (L .digits)) (bare-at 0 inside) ∙ share-blank L (L .digits) in
-          omega (arith, sum-stored L room (L .digits) bare 0 start inside legal, sum-blank L (L .digits) n, share-start (L .digits));
-    }
-      where
-        legal : lawful L start ≡ true
-        legal = lawful-start L strings
-
-        inside : 0 < length bare
-        inside = omega (arith, length-replicate n (blank L))
+    good-begin some strings =
+        let legal = lawful-start L strings in
+        let inside : 0 < length bare = omega (arith, length-replicate n (blank L)) in
+        record {
+          size = length-set bare 0 (stored L start) ∙ length-replicate n (blank L);
+          eventsSize = length-replicate n [];
+          sound =
+              sound-same initial (configOf L (begin L n)) (λ x. present-stored L bare 0 inside start legal x ∙ only-first x)
+              (λ x p. stamp-stored L bare 0 inside start legal x room ∙ rw p)
+              (λ x p. getD-replicate n x [] [] (omega (arith, eqb-true x 0 p))) refl sound-start;
+          shapes = shaped-stored bare 0 start inside legal (λ x p. absurd (clash p (bare-absent x)));
+          sum =
+              let held-none = ap (shareOf (L .digits)) (bare-at 0 inside) ∙ share-blank L (L .digits) in
+              omega (arith, sum-stored L room (L .digits) bare 0 start inside legal, sum-blank L (L .digits) n, share-start (L .digits));
+        }

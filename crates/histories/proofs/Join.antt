@@ -6,7 +6,7 @@ use Rattle.laws.proofs.Tests.{In}
 use Rattle.laws.proofs.Steps.{Proper}
 use Rattle.laws.proofs.Reduce.{reduce-keeps}
 use Rattle.histories.specs.Configurations.{Config, Sound, joined, put, settledAt}
-use Rattle.histories.proofs.Config.{Where, here, there, is-where, sound-same}
+use Rattle.histories.proofs.Config.{here, there, is-where, sound-same}
 use Rattle.histories.proofs.Unite.{unite-sound}
 use Rattle.histories.proofs.Settle.{settle-sound}
 
@@ -28,12 +28,9 @@ module _ (C : Config) (q : Sound C) (a b : ℕ) (pa : C .present a ≡ true) (pb
 
   step : (s : Str) (x : Stamp) → Proper x → In (s ▹ false) (x .id) → In (s ▹ true) (x .id) → Sound (with-stamp x) → Sound (with-stamp (settled s x))
   step s x ok i j h =
-      sound-same (settledAt a s (with-stamp x)) (with-stamp (settled s x)) (λ y. refl) (λ y p. by y (is-where a y)) (λ y p. refl) refl
+      sound-same (settledAt a s (with-stamp x)) (with-stamp (settled s x)) (λ y. refl)
+      (λ y p. elim (is-where a y) [ here o e ↦ rw (e, same-slot) | there m e ↦ rw e ]) (λ y p. refl) refl
       (settle-sound (with-stamp x) h a stays s (rw same-slot i) (rw same-slot j))
-    where
-      by : (y : ℕ) → Where a y → with-stamp (settled s x) .stamp y ≡ settledAt a s (with-stamp x) .stamp y
-      by y (here p e) = rw (e, same-slot)
-      by y (there m e) = rw e
 
   pub join-sound : Sound (joined a b C)
   unfolding join

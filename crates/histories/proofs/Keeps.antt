@@ -5,12 +5,10 @@ use Rattle.laws.proofs.Library.{length-set, getD-set-other, eqb-false, eq-eqb}
 use Rattle.rules.specs.Limits.{Limits}
 use Rattle.rules.specs.Stamps.{Stamp, lawful, update, fork, unite, join, sumShares}
 use Rattle.rules.specs.Stored.{stored, held, blank, absent}
-use Rattle.rules.specs.Refusals.{first, long, many}
-use Rattle.rules.specs.Tables.{Table, outside, at, stampAt, present, lowest, full, Step, stepped, oneSlot, updateAt, forkAt, joinAt}
+use Rattle.rules.specs.Refusals.{long, many}
+use Rattle.rules.specs.Tables.{Table, outside, at, stampAt, present, lowest, full, stepped, oneSlot, updateAt, forkAt, joinAt}
 use Rattle.rules.specs.Histories.{Call, update as updates, fork as forks, join as joins, compare as compares, World, Events, eventsAt}
 use Rattle.rules.specs.Histories.{afterUpdate, afterFork, afterJoin, after, sumTable}
-use Rattle.rules.specs.declared.Answer.{Answer}
-use Rattle.rules.specs.declared.Answer.the-variants.{Done, Refused}
 use Rattle.laws.proofs.Tests.{clash, not-true, is-not, in-append, any-none}
 use Rattle.laws.proofs.Union.{union-top}
 use Rattle.laws.proofs.Lawful.{lawful-parts, lawful-proper, lawful-update, lawful-fork, lawful-join, unite-proper}
@@ -21,7 +19,7 @@ use Rattle.histories.proofs.Config.{sound-same}
 use Rattle.histories.proofs.Update.{update-sound}
 use Rattle.histories.proofs.Fork.{fork-sound}
 use Rattle.histories.proofs.Join.{join-sound}
-use Rattle.histories.proofs.Tables.{forkTests, joinTests, done-passed, getD-put, put-self, present-size, present-there, present-blank, present-stored}
+use Rattle.histories.proofs.Tables.{forkTests, joinTests, answered, getD-put, put-self, present-size, present-there, present-blank, present-stored}
 use Rattle.histories.proofs.Tables.{stamp-stored, lowest-absent, lowest-size, shareOf, sum-set, sum-stored, share-blank}
 use Rattle.histories.proofs.Good.{configOf, Good, shaped-stored, shaped-blank}
 
@@ -186,41 +184,26 @@ module _ (L : Limits) (room : L .digits ≤ 58) (n : ℕ) (w : World) (g : Good 
 
   good-update : (a : ℕ) → Good L n (after L w (updates a))
   unfolding after updateAt
-  good-update a = by (first (oneSlot L t a [])) refl
-    where
-      step : Answer → Step
-      step x = stepped x a t (set t a (stored L (update (stampAt t a))))
-
-      by : (x : Answer) → first (oneSlot L t a []) ≡ x → Good L n (afterUpdate w a (step x) (step x .answer))
-      by Done e = updated-good a (is-not (done-passed (oneSlot L t a []) e .1 .0))
-      by (Refused r) e = g
+  good-update a =
+      answered (oneSlot L t a [])
+      (λ x. let r = stepped x a t (set t a (stored L (update (stampAt t a)))) in Good L n (afterUpdate w a r (r .answer)))
+      (λ p. updated-good a (is-not (p .1 .0))) (λ r. g)
 
   good-fork : (a : ℕ) → Good L n (after L w (forks a))
   unfolding after forkAt full
-  good-fork a = by (first (forkTests L t a)) refl
-    where
-      step : Answer → Step
-      step x = stepped x (lowest L t) t (set (set t a (stored L (fork false (stampAt t a)))) (lowest L t) (stored L (fork true (stampAt t a))))
-
-      by : (x : Answer) → first (forkTests L t a) ≡ x → Good L n (afterFork w a (step x) (step x .answer))
-      by Done e =
-          let p = done-passed (forkTests L t a) e in
-          let h : lowest L t < length t = omega (arith, lowest-size L t, eqb-false (lowest L t) (length t) (p .1 .1 .1 .0)) in
-          forked-good a (is-not (p .1 .0)) (lowest L t) h (lowest-absent L t h) (p .1 .1 .1 .1 .0)
-      by (Refused r) e = g
+  good-fork a =
+      let b = lowest L t in
+      let both = set (set t a (stored L (fork false (stampAt t a)))) b (stored L (fork true (stampAt t a))) in
+      answered (forkTests L t a) (λ x. let r = stepped x b t both in Good L n (afterFork w a r (r .answer)))
+      (λ p. let h : b < length t = omega (arith, lowest-size L t, eqb-false b (length t) (p .1 .1 .1 .0)) in
+      forked-good a (is-not (p .1 .0)) b h (lowest-absent L t h) (p .1 .1 .1 .1 .0)) (λ r. g)
 
   good-join : (a b : ℕ) → Good L n (after L w (joins a b))
   unfolding after joinAt
-  good-join a b = by (first (joinTests L t a b)) refl
-    where
-      step : Answer → Step
-      step x = stepped x a t (set (set t a (stored L (join (stampAt t a) (stampAt t b)))) b (blank L))
-
-      by : (x : Answer) → first (joinTests L t a b) ≡ x → Good L n (afterJoin w a b (step x) (step x .answer))
-      by Done e =
-          let p = done-passed (joinTests L t a b) e in
-          joined-good a (is-not (p .1 .0)) b (is-not (p .1 .1 .0)) (eqb-false a b (p .1 .1 .1 .0)) (p .1 .1 .1 .1 .1 .1 .1 .1 .0)
-      by (Refused r) e = g
+  good-join a b =
+      let one = set (set t a (stored L (join (stampAt t a) (stampAt t b)))) b (blank L) in
+      answered (joinTests L t a b) (λ x. let r = stepped x a t one in Good L n (afterJoin w a b r (r .answer)))
+      (λ p. joined-good a (is-not (p .1 .0)) b (is-not (p .1 .1 .0)) (eqb-false a b (p .1 .1 .1 .0)) (p .1 .1 .1 .1 .1 .1 .1 .1 .0)) (λ r. g)
 
   pub good-after : (c : Call) → Good L n (after L w c)
   unfolding after

@@ -1,16 +1,17 @@
 -- A table that keeps the invariant is right: events and update names agree by Proposition 5.1, ids that are apart never overlap, what an
 -- id covers its update has seen, and stored shapes are lawful; so refusals 8, 9 and 12 have no cause. Assumes nothing.
-use Rattle.laws.proofs.Library.{_≡_, refl, sym, ap, ap₂, _∙_, subst, Bool, true, false, cond, not, _&&_, _||_, List, [], _∷_, _++_, map, inl, _↔_, ℕ, zero}
-use Rattle.laws.proofs.Library.{suc, _+_, _≤_, _<_, zero-add, arith, eqb, length, drop, drop-of-length-le, drop-cons, eqb-true, eqb-false, eq-eqb, ne-eqb}
-use Rattle.laws.proofs.Library.{le-ltb}
+use Rattle.laws.proofs.Library.{_≡_, refl, sym, ap, ap₂, _∙_, subst, Bool, true, false, cond, and-false, inr, not, _&&_, _||_, List, [], _∷_, _++_, map, inl}
+use Rattle.laws.proofs.Library.{_↔_, ℕ, zero, suc, _+_, _≤_, _<_, zero-add, arith, eqb, length, drop, drop-of-length-le, drop-cons, eqb-true, eqb-false}
+use Rattle.laws.proofs.Library.{eq-eqb, ne-eqb, le-ltb}
 use Rattle.rules.specs.Limits.{Limits, records}
 use Rattle.rules.specs.Strings.{Str}
 use Rattle.rules.specs.Names.{Name, any, covered, below, unions}
-use Rattle.rules.specs.Stamps.{Stamp, verdict, compare}
+use Rattle.rules.specs.Stamps.{verdict, compare}
 use Rattle.rules.specs.Stored.{unlawful, absent}
 use Rattle.rules.specs.Refusals.{first, long, touches, overlap, unknownTo, unseen}
 use Rattle.rules.specs.Values.{told}
-use Rattle.rules.specs.Tables.{Table, outside, at, stampAt, badSize, present, full, stepped, oneSlot, updateAt, forkAt, joinAt, compareAt, orNext, spareFrom, spareAt}
+use Rattle.rules.specs.Tables.{Table, outside, at, stampAt, badSize, noSlot, present, full, stepped, oneSlot, updateAt, forkAt, joinAt, compareAt, orNext}
+use Rattle.rules.specs.Tables.{sparedAfter, spareFrom, spareAt}
 use Rattle.rules.specs.Histories.{World, Events, eventsAt, within, eventVerdict, isObsolete, slotsFrom, isBehind, eventsOf}
 use Rattle.rules.specs.Promises.{Usual, UsualSlot, UsualCompared, UsualSpared, Right}
 use Rattle.rules.specs.declared.Verdict.{Verdict}
@@ -22,13 +23,14 @@ use Rattle.rules.specs.declared.Answer.the-variants.{Done, Refused}
 use Rattle.rules.specs.declared.Compared.the-variants.{Is}
 use Rattle.rules.specs.declared.Spared.{Spared}
 use Rattle.rules.specs.declared.Spared.the-variants.{Spare, Kept}
-use Rattle.laws.proofs.Tests.{clash, not-true, iff, and-left, and-right, is-not, not-is, In, any-some, some-any, all-each, each-all}
+use Rattle.laws.proofs.Tests.{decide, none-any, not-true, iff, is-not, not-is, In, any-some, some-any, all-each, each-all}
 use Rattle.laws.proofs.Below.{member-in, covered-some, below-each, each-below}
 use Rattle.laws.proofs.Union.{covered-unions}
 use Rattle.laws.proofs.Stored.{stored-not-unlawful}
 use Rattle.histories.specs.Configurations.{AllPresent, Among, Config, Covers, Seen}
 use Rattle.histories.proofs.Config.{in-one, gather, in-gather, gather-in}
-use Rattle.histories.proofs.Tables.{forkTests, joinTests, compareTests, passed-done, done-passed, Usuals, end, never, gives, UsualAnswer, first-usual, present-by}
+use Rattle.histories.proofs.Tables.{forkTests, joinTests, compareTests, passed-done, answered, Usuals, end, never, gives, UsualAnswer, first-usual}
+use Rattle.histories.proofs.Tables.{present-by}
 use Rattle.histories.proofs.Good.{configOf, Good}
 
 -- ---- events and names of some slots
@@ -50,15 +52,10 @@ events-among w S e = (
   λ a. rw (events-gather w S) (in-gather (eventsAt w) S (a .slot) e (a .inside) (a .holds)),
 )
 
-any-map : {A B : Type 0} (p : B → Bool) (f : A → B) (l : List A) → any p (map f l) ≡ any (λ x. p (f x)) l
-unfolding any
-any-map p f [] = refl
-any-map p f (x ∷ l) = ap (λ (b : Bool). p (f x) || b) (any-map p f l)
-
 -- what the union of the slots' names covers, some slot's name covers
 names-among : (f : ℕ → Name) (S : List ℕ) (r : Str) → (covered r (unions (map f S)) ≡ true) ↔ Among S (λ b. covered r (f b) ≡ true)
 names-among f S r =
-    let e = covered-unions r (map f S) ∙ any-map (covered r) f S in (
+    let e = covered-unions f r S in (
       λ c. let x = any-some (λ (b : ℕ). covered r (f b)) S (sym e ∙ c) in record { slot = x .one; inside = x .inside; holds = x .passes },
       λ a. e ∙ some-any (λ (b : ℕ). covered r (f b)) S (a .slot) (a .inside) (a .holds),
     )
@@ -92,10 +89,6 @@ or-next Obsolete next = refl
 or-next Newer next = refl
 or-next Conflict next = refl
 
-cond-or : (a b : Bool) → cond a Spare (cond b Spare Kept) ≡ cond (a || b) Spare Kept
-cond-or true b = refl
-cond-or false b = refl
-
 -- a pair with itself, or with an absent slot, is passed over
 one-turn : (self gone ahead more : Bool) (next verd : Spared) → next ≡ cond more Spare Kept
     → (self ≡ false → gone ≡ false → verd ≡ cond ahead Spare next)
@@ -103,7 +96,8 @@ one-turn : (self gone ahead more : Bool) (next verd : Spared) → next ≡ cond 
 one-turn true true ahead more next verd e f = e
 one-turn true false ahead more next verd e f = e
 one-turn false true ahead more next verd e f = e
-one-turn false false ahead more next verd e f = f refl refl ∙ ap (cond ahead Spare) e ∙ cond-or ahead more
+one-turn false false true more next verd e f = f refl refl
+one-turn false false false more next verd e f = f refl refl ∙ e
 
 module _ (L : Limits) (n : ℕ) (some : 1 ≤ n) (few : n ≤ records) (w : World) (g : Good L n w) where
   abbrev t : Table
@@ -127,10 +121,8 @@ module _ (L : Limits) (n : ℕ) (some : 1 ≤ n) (few : n ≤ records) (w : Worl
   touches-none : (a b : ℕ) → Here a → Here b → (a ≡ b → ⊥) → touches (stampAt t a .id) (stampAt t b .id) ≡ false
   unfolding touches
   touches-none a b p q two =
-      not-true (λ e.
-      let x = any-some (λ (s : Str). covered s (stampAt t b .id)) (stampAt t a .id) e in
-      let y = covered-some (x .one) (stampAt t b .id) (x .passes) in
-      two (g .sound .apart a b (x .one) (y .one) p q (x .inside) (y .inside) (y .passes) .0))
+      none-any (λ (s : Str). covered s (stampAt t b .id)) (stampAt t a .id) (λ s i.
+      not-true (λ e. let y = covered-some s (stampAt t b .id) e in two (g .sound .apart a b s (y .one) p q i (y .inside) (y .passes) .0)))
 
   overlap-none : (a b : ℕ) → Here a → Here b → (a ≡ b → ⊥) → overlap (stampAt t a) (stampAt t b) ≡ false
   unfolding overlap
@@ -139,13 +131,9 @@ module _ (L : Limits) (n : ℕ) (some : 1 ≤ n) (few : n ≤ records) (w : Worl
   known-all : (a b : ℕ) → Here a → Here b → unknownTo (stampAt t a .update) (stampAt t b .id) (stampAt t b .update) ≡ false
   unfolding unknownTo
   known-all a b p q =
-      not-true (λ e.
       let i = stampAt t b .id in
-      let v = stampAt t b .update in
-      let x = any-some (λ (r : Str). covered r i && not (covered r v)) (stampAt t a .update) e in
-      let r = x .one in
-      clash (g .sound .seen a b r p q (x .inside) (and-left (covered r i) (not (covered r v)) (x .passes)))
-      (not-is (and-right (covered r i) (not (covered r v)) (x .passes))))
+      none-any (λ (r : Str). covered r i && not (covered r (stampAt t b .update))) (stampAt t a .update) (λ r j.
+      elim (decide (covered r i)) [ inl e ↦ rw (e, g .sound .seen a b r p q j e) | inr e ↦ rw e ])
 
   unseen-none : (a b : ℕ) → Here a → Here b → unseen (stampAt t a) (stampAt t b) ≡ false
   unfolding unseen
@@ -176,13 +164,10 @@ module _ (L : Limits) (n : ℕ) (some : 1 ≤ n) (few : n ≤ records) (w : Worl
   -- ---- what compare answers
 
   overlap-tested : (a b : ℕ) → Here a → Here b → (not (eqb a b) && overlap (stampAt t a) (stampAt t b)) ≡ false
-  overlap-tested a b p q =
-      not-true (λ e.
-      let o = overlap (stampAt t a) (stampAt t b) in
-      clash (and-right (not (eqb a b)) o e) (overlap-none a b p q (eqb-false a b (not-is (and-left (not (eqb a b)) o e)))))
+  overlap-tested a b p q = elim (decide (eqb a b)) [ inl e ↦ rw e | inr e ↦ rw (e, overlap-none a b p q (eqb-false a b e)) ]
 
   unseen-tested : (a b : ℕ) → Here a → Here b → (not (eqb a b) && unseen (stampAt t a) (stampAt t b)) ≡ false
-  unseen-tested a b p q = not-true (λ e. clash (and-right (not (eqb a b)) (unseen (stampAt t a) (stampAt t b)) e) (unseen-none a b p q))
+  unseen-tested a b p q = rw (unseen-none a b p q, and-false)
 
   verdicts : (a b : ℕ) → Here a → Here b → compareAt L t a b ≡ Is (eventVerdict (eventsAt w a) (eventsAt w b))
   unfolding compareAt
@@ -202,29 +187,16 @@ module _ (L : Limits) (n : ℕ) (some : 1 ≤ n) (few : n ≤ records) (w : Worl
     unfolding spareFrom slotsFrom any
     spare-from zero b e = rw (drop-of-length-le t {i = b} (omega arith))
     spare-from (suc k) b e =
+        let h : b < length t = omega arith in
+        let s = stampAt t a in
+        let v = eventVerdict (eventsAt w a) (eventsAt w b) in
+        let next = spareFrom L s a (suc b) (drop (suc b) t) in
+        let tests : List (Bool × Refusal) = (unlawful L (at t b), Unfit) ∷ (overlap s (stampAt t b), Overlap) ∷ (unseen s (stampAt t b), Unseen) ∷ [] in
         rw (drop-cons t b outside h, present-by L t b h)
         (one-turn (eqb a b) (absent L (at t b)) (isObsolete v) (any ahead (slotsFrom (suc b) k)) next (orNext (first tests) (compare s (stampAt t b)) next)
-        (spare-from k (suc b) (omega arith)) pair)
-      where
-        h : b < length t
-        h = omega arith
-
-        s : Stamp
-        s = stampAt t a
-
-        v : Verdict
-        v = eventVerdict (eventsAt w a) (eventsAt w b)
-
-        next : Spared
-        next = spareFrom L s a (suc b) (drop (suc b) t)
-
-        tests : List (Bool × Refusal)
-        tests = (unlawful L (at t b), Unfit) ∷ (overlap s (stampAt t b), Overlap) ∷ (unseen s (stampAt t b), Unseen) ∷ []
-
-        pair : eqb a b ≡ false → absent L (at t b) ≡ false → orNext (first tests) (compare s (stampAt t b)) next ≡ cond (isObsolete v) Spare next
-        pair p q =
-            let pb : Here b = present-by L t b h ∙ is-not q in
-            rw (passed-done tests (fits b pb, (overlap-none a b pa pb (eqb-false a b p), (unseen-none a b pa pb, tt))), verdict-is a b pa pb) (or-next v next)
+        (spare-from k (suc b) (omega arith)) (λ p q.
+        let pb : Here b = present-by L t b h ∙ is-not q in
+        rw (passed-done tests (fits b pb, (overlap-none a b pa pb (eqb-false a b p), (unseen-none a b pa pb, tt))), verdict-is a b pa pb) (or-next v next)))
 
   spares : (a : ℕ) → Here a → spareAt L t a ≡ cond (isBehind L w a) Spare Kept
   unfolding spareAt isBehind
@@ -237,6 +209,10 @@ module _ (L : Limits) (n : ℕ) (some : 1 ≤ n) (few : n ≤ records) (w : Worl
 
   one-slot-usual : (a : ℕ) (more : List (Bool × Refusal)) → (Here a → Usuals more) → Usuals (oneSlot L t a more)
   one-slot-usual a more f = never size-fits (gives no-slot λ p. never (fits a (is-not p)) (f (is-not p)))
+
+  two-slots-usual : (a b : ℕ) (more : List (Bool × Refusal)) → (Here a → Here b → Usuals more)
+      → Usuals ((badSize t, Unfit) ∷ (noSlot L t a, NoSlot) ∷ (noSlot L t b, NoSlot) ∷ more)
+  two-slots-usual a b more f = never size-fits (gives no-slot λ p. gives no-slot λ q. f (is-not p) (is-not q))
 
   usual-update : (a : ℕ) → UsualSlot (updateAt L t a .answer)
   unfolding updateAt
@@ -255,31 +231,22 @@ module _ (L : Limits) (n : ℕ) (some : 1 ≤ n) (few : n ≤ records) (w : Worl
   usual-join a b =
       step-usual (first (joinTests L t a b)) a t _
       (first-usual
-      (never size-fits
-      (gives no-slot λ p. gives no-slot λ q. gives (omega arith) λ e.
-      let pa = is-not p in
-      let pb = is-not q in
-      never (fits a pa) (never (fits b pb)
-      (never (overlap-none a b pa pb (eqb-false a b e)) (never (unseen-none a b pa pb) (gives (omega arith) λ _. end)))))))
+      (two-slots-usual a b _ (λ p q. gives (omega arith) λ e. never (fits a p) (never (fits b q)
+      (never (overlap-none a b p q (eqb-false a b e)) (never (unseen-none a b p q) (gives (omega arith) λ _. end)))))))
 
   usual-compare : (a b : ℕ) → UsualCompared (compareAt L t a b)
   unfolding compareAt
   usual-compare a b =
       told-usual (first (compareTests L t a b)) (compare (stampAt t a) (stampAt t b))
       (first-usual
-      (never size-fits
-      (gives no-slot λ p. gives no-slot λ q.
-      let pa = is-not p in
-      let pb = is-not q in
-      never (fits a pa) (never (fits b pb) (never (overlap-tested a b pa pb) (never (unseen-tested a b pa pb) end))))))
+      (two-slots-usual a b _ (λ p q. never (fits a p) (never (fits b q) (never (overlap-tested a b p q) (never (unseen-tested a b p q) end))))))
 
   usual-spare : (a : ℕ) → UsualSpared (spareAt L t a)
-  unfolding spareAt
-  usual-spare a = by (first (oneSlot L t a [])) refl
-    where
-      by : (x : Answer) → first (oneSlot L t a []) ≡ x → UsualSpared (spareAt L t a)
-      by Done e = subst UsualSpared (sym (spares a (is-not (done-passed (oneSlot L t a []) e .1 .0)))) (kept-usual (isBehind L w a))
-      by (Refused r) e = rw e (rw e at (first-usual (one-slot-usual a [] (λ _. end))))
+  unfolding spareAt isBehind
+  usual-spare a =
+      answered (oneSlot L t a []) (λ x. UsualAnswer x → UsualSpared (sparedAfter x (spareFrom L (stampAt t a) a 0 t)))
+      (λ p _. subst UsualSpared (sym (spare-from a (is-not (p .1 .0)) (length t) 0 (zero-add (length t)))) (kept-usual (isBehind L w a))) (λ r u. u)
+      (first-usual (one-slot-usual a [] (λ _. end)))
 
   pub good-right : Right L w
   good-right = record {

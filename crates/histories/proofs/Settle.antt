@@ -2,16 +2,16 @@
 -- (Invariant 4.5), so nothing that another copy's name is asked changes (section 6 of the paper). Assumes nothing.
 use Rattle.laws.proofs.Library.{_≡_, refl, sym, _∙_, subst, Bool, true, false, List, [], inr, ⊎-elim, ℕ, _≤_, length}
 use Rattle.rules.specs.Strings.{Str, prefix, _▹_}
-use Rattle.rules.specs.Names.{rising, covered}
+use Rattle.rules.specs.Names.{covered}
 use Rattle.rules.specs.Stamps.{settle, settled}
 use Rattle.laws.proofs.Tests.{clash, decide, In}
 use Rattle.laws.proofs.Prefix.{prefix-grown, prefix-goes-on, grown-not-prefix}
 use Rattle.laws.proofs.Rising.{rising-antichain}
 use Rattle.laws.proofs.Below.{covered-some, some-covered, in-covered, covered-down, covered-below}
-use Rattle.laws.proofs.Settle.{Other, Way, holds, lacks, way, settle-in, in-settle}
+use Rattle.laws.proofs.Settle.{Other, holds, lacks, way, settle-in, in-settle}
 use Rattle.laws.proofs.Steps.{Proper, settle-covered, covered-settle, covered-settle-update, settled-proper}
-use Rattle.histories.specs.Configurations.{AllPresent, Config, Covers, Sound, Under, Within, put, settledAt}
-use Rattle.histories.proofs.Config.{Where, here, there, is-where, among}
+use Rattle.histories.specs.Configurations.{AllPresent, Config, Covers, Sound, Under, Within, settledAt}
+use Rattle.histories.proofs.Config.{Where, here, there, is-where, among, under-covered, ApartIn, SeenIn}
 
 module _ (C : Config) (q : Sound C) (c : ℕ) (pc : C .present c ≡ true) (s : Str) (zero-in : In (s ▹ false) (C .stamp c .id))
     (one-in : In (s ▹ true) (C .stamp c .id)) where
@@ -41,43 +41,29 @@ module _ (C : Config) (q : Sound C) (c : ℕ) (pc : C .present c ≡ true) (s : 
   -- update names cover nothing new
   back : (y : ℕ) (r : Str) → covered r (D .stamp y .update) ≡ true → covered r (C .stamp y .update) ≡ true
   unfolding settled
-  back y r h = by (is-where c y)
-    where
-      by : Where c y → covered r (C .stamp y .update) ≡ true
-      by (here p e) = rw p (settle-covered s (C .stamp c .update) r (rw e at h))
-      by (there n e) = rw e at h
+  back y r h = elim (is-where c y) [ here p e ↦ rw p (settle-covered s (C .stamp c .update) r (rw e at h)) | there n e ↦ rw e at h ]
 
   back-id : (y : ℕ) (r : Str) → covered r (D .stamp y .id) ≡ true → covered r (C .stamp y .id) ≡ true
   unfolding settled
-  back-id y r h = by (is-where c y)
-    where
-      by : Where c y → covered r (C .stamp y .id) ≡ true
-      by (here p e) = rw p (settle-covered s (C .stamp c .id) r (rw e at h))
-      by (there n e) = rw e at h
+  back-id y r h = elim (is-where c y) [ here p e ↦ rw p (settle-covered s (C .stamp c .id) r (rw e at h)) | there n e ↦ rw e at h ]
 
   -- and lose s0 and s1 alone
   still : (y : ℕ) (r : Str) → Other s r → covered r (C .stamp y .update) ≡ true → covered r (D .stamp y .update) ≡ true
   unfolding settled
-  still y r o h = by (is-where c y)
-    where
-      by : Where c y → covered r (D .stamp y .update) ≡ true
-      by (here p e) = rw e (covered-settle s (C .stamp c .update) r (rw p at h) o)
-      by (there n e) = rw e h
+  still y r o h = elim (is-where c y) [ here p e ↦ rw e (covered-settle s (C .stamp c .update) r (rw p at h) o) | there n e ↦ rw e h ]
 
   others : (y : ℕ) (r : Str) → C .present y ≡ true → covered r (D .stamp y .update) ≡ true → Other s r
   unfolding settled
-  others y r py h = by (is-where c y)
-    where
-      by : Where c y → Other s r
-      by (here p e) = covered-settle-update s (C .stamp c) (q .proper c pc) zero-in one-in r .0 (rw e at h) .1
-      by (there n e) = other-covered y r py n (under-id y r py (rw e at h))
+  others y r py h = elim (is-where c y) [
+    | here p e ↦ covered-settle-update s (C .stamp c) (q .proper c pc) zero-in one-in r .0 (rw e at h) .1
+    | there n e ↦ other-covered y r py n (under-id y r py (rw e at h))
+  ]
+
+  settled-here : Proper (settled s (C .stamp c))
+  settled-here = settled-proper s (C .stamp c) (q .proper c pc) zero-in one-in
 
   proper-after : (x : ℕ) → C .present x ≡ true → Proper (D .stamp x)
-  proper-after x px = by (is-where c x)
-    where
-      by : Where c x → Proper (D .stamp x)
-      by (here p e) = rw e (settled-proper s (C .stamp c) (q .proper c pc) zero-in one-in)
-      by (there n e) = rw e (q .proper x px)
+  proper-after x px = elim (is-where c x) [ here p e ↦ rw e settled-here | there n e ↦ rw e (q .proper x px) ]
 
   nonempty-after : (x : ℕ) → C .present x ≡ true → (t : Str) × In t (D .stamp x .update)
   unfolding prefix
@@ -102,72 +88,61 @@ module _ (C : Config) (q : Sound C) (c : ℕ) (pc : C .present c ≡ true) (s : 
       let u = covered-some r (C .stamp c .id) e in
       n (q .apart x c r (u .one) px pc i (u .inside) (u .passes) .0)
 
-  settled-id-rising : rising (settle s (C .stamp c .id)) ≡ true
-  unfolding settled
-  settled-id-rising = settled-proper s (C .stamp c) (q .proper c pc) zero-in one-in .idRising
-
-  apart-after : (x y : ℕ) (r t : Str) → C .present x ≡ true → C .present y ≡ true → In r (D .stamp x .id) → In t (D .stamp y .id)
-      → prefix r t ≡ true → (x ≡ y) × (r ≡ t)
+  apart-after : ApartIn D
   unfolding settled
   apart-after x y r t px py i j h = by (is-where c x) (is-where c y)
     where
       by : Where c x → Where c y → (x ≡ y) × (r ≡ t)
-      by (here p e) (here o f) = (p ∙ sym o, rising-antichain (settle s (C .stamp c .id)) settled-id-rising r t (rw e at i) (rw f at j) h)
+      by (here p e) (here o f) = (p ∙ sym o, rising-antichain (settle s (C .stamp c .id)) (settled-here .idRising) r t (rw e at i) (rw f at j) h)
       by (there n e) (there m f) = q .apart x y r t px py (rw e at i) (rw f at j) h
       by (here p e) (there m f) = absurd (from-c y r t py m (rw e at i) (rw f at j) h)
       by (there n e) (here o f) = absurd (to-c x r t px n (rw e at i) (rw f at j) h)
 
-  seen-after : (x y : ℕ) (r : Str) → C .present x ≡ true → C .present y ≡ true → In r (D .stamp x .update) → covered r (D .stamp y .id) ≡ true
-      → covered r (D .stamp y .update) ≡ true
+  seen-after : SeenIn D
   unfolding settled
-  seen-after x y r px py i h = by (is-where c x) (is-where c y)
-    where
-      o : Other s r
-      o = others x r px (in-covered r (D .stamp x .update) i)
-
-      old : covered r (C .stamp y .id) ≡ true
-      old = back-id y r h
-
-      by : Where c x → Where c y → covered r (D .stamp y .update) ≡ true
-      by (there n e) w = still y r o (q .seen x y r px py (rw e at i) old)
-      by (here p e) (here k f) = rw f (in-covered r (settle s (C .stamp c .update)) (rw e at i))
-      by (here p e) (there m f) =
-          ⊎-elim (λ l. still y r o (q .seen c y r pc py (l .0) old)) (λ l. absurd (away y py m (rw (l .0) at old)))
-          (settle-in s (C .stamp c .update) r (rw e at i))
+  seen-after x y r px py i h =
+      let o = others x r px (in-covered r (D .stamp x .update) i) in
+      let old = back-id y r h in
+      elim (is-where c x) [
+        | there n e ↦ still y r o (q .seen x y r px py (rw e at i) old)
+        | here p e ↦ elim (is-where c y) [
+          | here k f ↦ rw f (in-covered r (settle s (C .stamp c .update)) (rw e at i))
+          | there m f ↦
+              ⊎-elim (λ l. still y r o (q .seen c y r pc py (l .0) old)) (λ l. absurd (away y py m (rw (l .0) at old)))
+              (settle-in s (C .stamp c .update) r (rw e at i))
+        ]
+      ]
 
   module _ (x : ℕ) (S : List ℕ) (px : C .present x ≡ true) (g : AllPresent C S) (some : 1 ≤ length S) where
     known-after : Within D x S → Under D x S
     known-after w r i =
         let h = in-covered r (D .stamp x .update) i in
-        let t = covered-some r (C .stamp x .update) (back x r h) in
-        among (λ b j k. still b r (others x r px h) (covered-down r (t .one) (C .stamp b .update) (t .passes) k)) (q .known x S px g some w (t .one) (t .inside))
+        among (λ b j k. still b r (others x r px h) k) (under-covered C x S (q .known x S px g some w) r (back x r h))
 
-    -- a string that is covered still is asked as before
-    kept : Under D x S → (r : Str) → covered r (D .stamp x .update) ≡ true → Covers C S r
-    kept u r h =
-        let t = covered-some r (D .stamp x .update) h in
-        among (λ b j k. back b r (covered-down r (t .one) (D .stamp b .update) (t .passes) k)) (u (t .one) (t .inside))
-
-    -- one that is not was s0 or s1 in c: there s is asked for it, and only c covers s
+    -- a string that is covered no longer was s0 or s1 in c: there s is asked for it, and only c covers s
     lost : Under D x S → (r : Str) → In r (C .stamp x .update) → covered r (D .stamp x .update) ≡ false → Covers C S r
     unfolding settled
-    lost u r i h = by (is-where c x) (way s (C .stamp c .update))
-      where
-        still-here : covered r (C .stamp x .update) ≡ true
-        still-here = in-covered r (C .stamp x .update) i
+    lost u r i h =
+        let here-still = in-covered r (C .stamp x .update) i in
+        elim (is-where c x) [
+          | there n f ↦ absurd (clash here-still (rw f at h))
+          | here p f ↦ elim (way s (C .stamp c .update)) [
+            | lacks k e ↦ absurd (clash (rw p at here-still) (rw (f, e) at h))
+            | holds k e ↦
+                among
+                (λ y j l. elim (is-where c y) [
+                  | here o z ↦ rw (o ∙ sym p) here-still
+                  | there n z ↦ absurd (away y (g y j) n (under-id y s (g y j) (rw z at l)))
+                ])
+                (u s (rw f (in-settle s (C .stamp c .update) s (inr (refl, k)))))
+          ]
+        ]
 
-        at : x ≡ c → (y : ℕ) → C .present y ≡ true → covered s (D .stamp y .update) ≡ true → Where c y → covered r (C .stamp y .update) ≡ true
-        at p y py k (here o f) = rw (o ∙ sym p) still-here
-        at p y py k (there n f) = absurd (away y py n (under-id y s py (rw f at k)))
-
-        by : Where c x → Way s (C .stamp c .update) → Covers C S r
-        by (there n f) w = absurd (clash still-here (rw f at h))
-        by (here p f) (lacks k e) = absurd (clash (rw p at still-here) (rw (f, e) at h))
-        by (here p f) (holds k e) =
-            among (λ y j l. at p y (g y j) l (is-where c y)) (u s (rw f (in-settle s (C .stamp c .update) s (inr (refl, k)))))
-
+    -- one that is covered still is asked as before
     shown-after : Under D x S → Within D x S
-    shown-after u = q .shown x S px g some (λ r i. ⊎-elim (kept u r) (lost u r i) (decide (covered r (D .stamp x .update))))
+    shown-after u =
+        q .shown x S px g some
+        (λ r i. ⊎-elim (λ h. among (λ b j k. back b r k) (under-covered D x S u r h)) (lost u r i) (decide (covered r (D .stamp x .update))))
 
   pub settle-sound : Sound (settledAt c s C)
   settle-sound = record {

@@ -1,7 +1,7 @@
 -- What a table holds after a store, which slot a fork takes, what the shares of all slots come to after a store, and what a call's
 -- answer tells of its tests. Assumes nothing.
-use Rattle.laws.proofs.Library.{_≡_, refl, sym, ap, _∙_, Bool, true, false, cond, not, _&&_, _||_, List, [], _∷_, ℕ, zero, suc, _+_, _≤_, _<_, sub-zero}
-use Rattle.laws.proofs.Library.{arith, eqb, leb, length, getD, set, replicate, length-set, getD-set-same, getD-set-other, leb-false, lt-leb}
+use Rattle.laws.proofs.Library.{_≡_, refl, sym, ap, _∙_, Bool, true, false, not, _&&_, List, [], _∷_, inl, inr, ℕ, zero, suc, _+_, _≤_, _<_, sub-zero, arith}
+use Rattle.laws.proofs.Library.{eqb, leb, length, getD, set, replicate, length-set, getD-set-same, getD-set-other, leb-false, lt-leb}
 use Rattle.rules.specs.Limits.{Limits}
 use Rattle.rules.specs.Strings.{share, whole}
 use Rattle.rules.specs.Stamps.{Stamp, start, lawful, join, sumShares}
@@ -15,10 +15,10 @@ use Rattle.rules.specs.declared.Refusal.{Refusal}
 use Rattle.rules.specs.declared.Refusal.the-variants.{NoSlot, OneSlot, Full, Long, Many, Overlap, Unseen, Unfit}
 use Rattle.rules.specs.declared.Answer.{Answer}
 use Rattle.rules.specs.declared.Answer.the-variants.{Done, Refused}
-use Rattle.laws.proofs.Tests.{clash, not-true, is-not, not-is, or-right}
+use Rattle.laws.proofs.Tests.{clash, decide, not-true, is-not, not-is, or-right}
 use Rattle.laws.proofs.Stored.{held-stored, stored-present, blank-absent}
 use Rattle.histories.specs.Configurations.{put}
-use Rattle.histories.proofs.Config.{Where, here, there, is-where}
+use Rattle.histories.proofs.Config.{here, there, is-where}
 
 -- ---- answers
 
@@ -32,14 +32,11 @@ unfolding first
 passed-done [] p = refl
 passed-done (t ∷ ts) p = rw (p .0) (passed-done ts (p .1))
 
-pub done-passed : (ts : List (Bool × Refusal)) → first ts ≡ Done → Passed ts
+-- what holds where no test does, and of every refusal, holds of the answer
+pub answered : (ts : List (Bool × Refusal)) (P : Answer → Type 0) → (Passed ts → P Done) → ((r : Refusal) → P (Refused r)) → P (first ts)
 unfolding first
-done-passed [] e = tt
-done-passed (t ∷ ts) e = by (t .0) refl e (λ h. done-passed ts h)
-  where
-    by : (b : Bool) → t .0 ≡ b → cond b (Refused (t .1)) (first ts) ≡ Done → (first ts ≡ Done → Passed ts) → (t .0 ≡ false) × Passed ts
-    by true p e ih = absurd (let z : _≡_ {A = ℕ} 0 1 = cc in omega arith)
-    by false p e ih = (p, ih e)
+answered [] P f g = f tt
+answered (t ∷ ts) P f g = elim (decide (t .0)) [ inl e ↦ rw e (g (t .1)) | inr e ↦ rw e (answered ts P (λ p. f (e, p)) g) ]
 
 -- tests in their order: each never holds, or has a number that such a table gives
 pub data Usuals : List (Bool × Refusal) → Type 0 where
@@ -55,11 +52,7 @@ pub first-usual : {ts : List (Bool × Refusal)} → Usuals ts → UsualAnswer (f
 unfolding first
 first-usual end = tt
 first-usual (never p u) = rw p (first-usual u)
-first-usual (gives {b} {r} {ts} n f) = by b refl (λ e. first-usual (f e))
-  where
-    by : (c : Bool) → b ≡ c → (b ≡ false → UsualAnswer (first ts)) → UsualAnswer (cond c (Refused r) (first ts))
-    by true e ih = n
-    by false e ih = ih e
+first-usual (gives {b} {r} {ts} n f) = elim (decide b) [ inl e ↦ rw e n | inr e ↦ rw e (first-usual (f e)) ]
 
 -- the tests of a fork, a join and a compare, in their order
 abbrev pub forkTests : Limits → Table → ℕ → List (Bool × Refusal)
@@ -93,26 +86,14 @@ compareTests L t a b =
 
 -- the list with v in place a
 pub getD-put : {A : Type 0} (l : List A) (a : ℕ) (v d : A) (x : ℕ) → a < length l → getD (set l a v) x d ≡ put a v (λ y. getD l y d) x
-getD-put l a v d x h = by (is-where a x)
-  where
-    by : Where a x → getD (set l a v) x d ≡ put a v (λ y. getD l y d) x
-    by (here p e) = rw (e, p) (getD-set-same l a v d h)
-    by (there n e) = rw e (getD-set-other l a x v d n)
+getD-put l a v d x h = elim (is-where a x) [ here p e ↦ rw (e, p) (getD-set-same l a v d h) | there n e ↦ rw e (getD-set-other l a x v d n) ]
 
 put-map : {A B : Type 0} (f : A → B) (a : ℕ) (v : A) (g : ℕ → A) (x : ℕ) → f (put a v g x) ≡ put a (f v) (λ y. f (g y)) x
-put-map f a v g x = by (is-where a x)
-  where
-    by : Where a x → f (put a v g x) ≡ put a (f v) (λ y. f (g y)) x
-    by (here p e) = rw e
-    by (there n e) = rw e
+put-map f a v g x = elim (is-where a x) [ here p e ↦ rw e | there n e ↦ rw e ]
 
 -- putting what is there changes nothing
 pub put-self : {A : Type 0} (a : ℕ) (v : A) (g : ℕ → A) (x : ℕ) → g a ≡ v → put a v g x ≡ g x
-put-self a v g x h = by (is-where a x)
-  where
-    by : Where a x → put a v g x ≡ g x
-    by (here p e) = rw (e, p) (sym h)
-    by (there n e) = rw e
+put-self a v g x h = elim (is-where a x) [ here p e ↦ rw (e, p) (sym h) | there n e ↦ rw e ]
 
 -- ---- slots
 
@@ -137,11 +118,7 @@ module _ (L : Limits) (t : Table) (a : ℕ) (h : a < length t) where
 
   present-put : (r : Record) (b : Bool) (x : ℕ) → not (absent L r) ≡ b → present L (set t a r) x ≡ put a b (present L t) x
   unfolding noSlot
-  present-put r b x c = rw (length-set t a r, at-put r x) (by (is-where a x))
-    where
-      by : Where a x → not (leb (length t) x || absent L (put a r (at t) x)) ≡ put a b (present L t) x
-      by (here p e) = rw (e, p, lt-leb (length t) a h) c
-      by (there n e) = rw e
+  present-put r b x c = rw (length-set t a r, at-put r x) (elim (is-where a x) [ here p e ↦ rw (e, p, lt-leb (length t) a h) c | there n e ↦ rw e ])
 
   -- all zeros: no copy
   pub present-blank : (x : ℕ) → present L (set t a (blank L)) x ≡ put a false (present L t) x
@@ -162,21 +139,15 @@ module _ (L : Limits) where
   pub lowest-absent : (t : Table) → lowest L t < length t → absent L (at t (lowest L t)) ≡ true
   unfolding lowest
   lowest-absent [] h = absurd (omega arith)
-  lowest-absent (r ∷ t) h = by (absent L r) refl (λ k. lowest-absent t k) h
-    where
-      by : (b : Bool) → absent L r ≡ b → (lowest L t < length t → absent L (at t (lowest L t)) ≡ true) → cond b zero (suc (lowest L t)) < suc (length t)
-          → absent L (at (r ∷ t) (cond b zero (suc (lowest L t)))) ≡ true
-      by true e ih h = e
-      by false e ih h = ih (omega arith)
+  lowest-absent (r ∷ t) h = elim (decide (absent L r)) [
+    | inl e ↦ rw e e
+    | inr e ↦ rw e (lowest-absent t (let k : suc (lowest L t) < suc (length t) = rw e at h in omega arith))
+  ]
 
   pub lowest-size : (t : Table) → lowest L t ≤ length t
   unfolding lowest
   lowest-size [] = omega arith
-  lowest-size (r ∷ t) = by (absent L r) (lowest-size t)
-    where
-      by : (b : Bool) → lowest L t ≤ length t → cond b zero (suc (lowest L t)) ≤ suc (length t)
-      by true h = omega arith
-      by false h = omega arith
+  lowest-size (r ∷ t) = elim (decide (absent L r)) [ inl e ↦ rw e (omega arith) | inr e ↦ rw e (omega (arith, lowest-size t)) ]
 
 -- ---- shares
 

@@ -1,14 +1,14 @@
 -- An update keeps a configuration sound: the new event is in no other copy, no other copy covers a string of the updated copy's id,
 -- and what its id covers of another's update name it had seen before (Invariant 4.6). Assumes nothing.
-use Rattle.laws.proofs.Library.{_≡_, refl, sym, _∙_, subst, true, List, _∷_, inl, inr, ⊎-elim, ℕ, suc, _≤_, _<_, arith, length}
+use Rattle.laws.proofs.Library.{_≡_, refl, sym, _∙_, subst, true, List, _∷_, _⊎_, inl, inr, ⊎-elim, ℕ, _≤_, _<_, arith, length}
 use Rattle.rules.specs.Strings.{Str}
 use Rattle.rules.specs.Names.{covered}
 use Rattle.rules.specs.Stamps.{update}
 use Rattle.laws.proofs.Tests.{In}
-use Rattle.laws.proofs.Below.{covered-some, in-covered, covered-below, below-each, below-refl}
-use Rattle.laws.proofs.Steps.{Proper}
-use Rattle.histories.specs.Configurations.{AllPresent, Config, Covers, Seen, Sound, Under, Within, put, updated}
-use Rattle.histories.proofs.Config.{Where, here, there, is-where, among}
+use Rattle.laws.proofs.Below.{covered-some, in-covered, covered-below, below-each}
+use Rattle.laws.proofs.Steps.{Proper, update-proper}
+use Rattle.histories.specs.Configurations.{AllPresent, Config, Sound, Under, Within, updated}
+use Rattle.histories.proofs.Config.{here, there, is-where, among, SeenIn}
 
 module _ (C : Config) (q : Sound C) (a : ℕ) (pa : C .present a ≡ true) where
   abbrev D : Config
@@ -16,129 +16,91 @@ module _ (C : Config) (q : Sound C) (a : ℕ) (pa : C .present a ≡ true) where
 
   same-id : (x : ℕ) → D .stamp x .id ≡ C .stamp x .id
   unfolding update
-  same-id x = by (is-where a x)
-    where
-      by : Where a x → D .stamp x .id ≡ C .stamp x .id
-      by (here p e) = rw (e, p)
-      by (there n e) = rw e
+  same-id x = elim (is-where a x) [ here p e ↦ rw (e, p) | there n e ↦ rw e ]
 
   -- the update name covers no less
   wider : (x : ℕ) (r : Str) → covered r (C .stamp x .update) ≡ true → covered r (D .stamp x .update) ≡ true
   unfolding update
-  wider x r h = by (is-where a x)
-    where
-      by : Where a x → covered r (D .stamp x .update) ≡ true
-      by (here p e) = rw e (covered-below r (C .stamp a .update) (C .stamp a .id) (rw p at h) (q .proper a pa .belowId))
-      by (there n e) = rw e h
+  wider x r h = elim (is-where a x) [
+    | here p e ↦ rw e (covered-below r (C .stamp a .update) (C .stamp a .id) (rw p at h) (q .proper a pa .belowId))
+    | there n e ↦ rw e h
+  ]
 
   -- and of another copy's strings no more
   narrower : (x y : ℕ) (r : Str) → C .present x ≡ true → In r (C .stamp x .update) → covered r (D .stamp y .update) ≡ true
       → covered r (C .stamp y .update) ≡ true
   unfolding update
-  narrower x y r px i h = by (is-where a y)
-    where
-      by : Where a y → covered r (C .stamp y .update) ≡ true
-      by (here p e) = rw p (q .seen x a r px pa i (rw e at h))
-      by (there n e) = rw e at h
+  narrower x y r px i h = elim (is-where a y) [ here p e ↦ rw p (q .seen x a r px pa i (rw e at h)) | there n e ↦ rw e at h ]
 
   more : (x e : ℕ) → In e (C .events x) → In e (D .events x)
-  more x e i = by (is-where a x)
-    where
-      by : Where a x → In e (D .events x)
-      by (here p c) = rw c (inr (rw p at i))
-      by (there n c) = rw c i
+  more x e i = elim (is-where a x) [ here p c ↦ rw c (inr (rw p at i)) | there n c ↦ rw c i ]
+
+  -- a copy has the new event or what it had
+  event : (y e : ℕ) → In e (D .events y) → ((y ≡ a) × (e ≡ C .next)) ⊎ In e (C .events y)
+  event y e j = elim (is-where a y) [
+    | here p c ↦ ⊎-elim (λ h. inl (p, h)) (λ h. inr (rw p h)) (let k : In e (C .next ∷ C .events a) = rw c at j in k)
+    | there n c ↦ inr (rw c at j)
+  ]
 
   -- an event of before, that a copy has now, it had before
   less : (x y e : ℕ) → C .present x ≡ true → In e (C .events x) → In e (D .events y) → In e (C .events y)
-  less x y e px i j = by (is-where a y)
-    where
-      by : Where a y → In e (C .events y)
-      by (here p c) =
-          ⊎-elim (λ h. absurd (let l = q .fresh x e px i in omega arith)) (λ h. rw p h) (let k : In e (C .next ∷ C .events a) = rw c at j in k)
-      by (there n c) = rw c at j
+  less x y e px i j = ⊎-elim (λ h. absurd (let l = q .fresh x e px i in omega arith)) (λ h. h) (event y e j)
+
+  -- only a has seen the new event
+  newest : (y : ℕ) → C .present y ≡ true → In (C .next) (D .events y) → y ≡ a
+  newest y py i = ⊎-elim (λ h. h .0) (λ h. absurd (let l = q .fresh y (C .next) py h in omega arith)) (event y (C .next) i)
 
   -- only a itself covers a string of a's id
   own : (y : ℕ) (r : Str) → C .present y ≡ true → In r (C .stamp a .id) → covered r (C .stamp y .id) ≡ true → y ≡ a
   own y r py i h = let t = covered-some r (C .stamp y .id) h in sym (q .apart a y r (t .one) pa py i (t .inside) (t .passes) .0)
 
   own-update : (y : ℕ) (r : Str) → C .present y ≡ true → In r (C .stamp a .id) → covered r (D .stamp y .update) ≡ true → y ≡ a
-  own-update y r py i h = by (is-where a y)
-    where
-      by : Where a y → y ≡ a
-      by (here p e) = p
-      by (there n e) = own y r py i (covered-below r (C .stamp y .update) (C .stamp y .id) (rw e at h) (q .proper y py .belowId))
+  own-update y r py i h = elim (is-where a y) [
+    | here p e ↦ p
+    | there n e ↦ own y r py i (covered-below r (C .stamp y .update) (C .stamp y .id) (rw e at h) (q .proper y py .belowId))
+  ]
 
-  -- only a has seen the new event
-  newest : (y : ℕ) → C .present y ≡ true → In (C .next) (D .events y) → y ≡ a
-  newest y py i = by (is-where a y)
-    where
-      by : Where a y → y ≡ a
-      by (here p c) = p
-      by (there n c) = absurd (let l = q .fresh y (C .next) py (rw c at i) in omega arith)
-
-  -- a covers each string of its id, and has each of its events
+  -- a covers each string of its id
   a-covers : (y : ℕ) (r : Str) → y ≡ a → In r (C .stamp a .id) → covered r (D .stamp y .update) ≡ true
   unfolding update
-  a-covers y r p i = by (is-where a y)
-    where
-      by : Where a y → covered r (D .stamp y .update) ≡ true
-      by (here _ e) = rw e (in-covered r (C .stamp a .id) i)
-      by (there n e) = absurd (n p)
+  a-covers y r p i = elim (is-where a y) [ here _ e ↦ rw e (in-covered r (C .stamp a .id) i) | there n e ↦ absurd (n p) ]
 
   proper-after : (x : ℕ) → C .present x ≡ true → Proper (D .stamp x)
-  unfolding update
-  proper-after x px = by (is-where a x)
-    where
-      by : Where a x → Proper (D .stamp x)
-      by (here p e) =
-          let g = q .proper a pa .idRising in
-          rw e (record { updateRising = g; idRising = g; belowId = below-refl (C .stamp a .id) })
-      by (there n e) = rw e (q .proper x px)
+  proper-after x px = elim (is-where a x) [ here p e ↦ rw e (update-proper (C .stamp a) (q .proper a pa)) | there n e ↦ rw e (q .proper x px) ]
 
-  seen-after : (x y : ℕ) (r : Str) → C .present x ≡ true → C .present y ≡ true → In r (D .stamp x .update) → covered r (D .stamp y .id) ≡ true
-      → covered r (D .stamp y .update) ≡ true
+  seen-after : SeenIn D
   unfolding update
-  seen-after x y r px py i h = by (is-where a x)
-    where
-      old : covered r (C .stamp y .id) ≡ true
-      old = rw (same-id y) at h
-
-      by : Where a x → covered r (D .stamp y .update) ≡ true
-      by (here p e) = let j : In r (C .stamp a .id) = rw e at i in a-covers y r (own y r py j old) j
-      by (there n e) = wider y r (q .seen x y r px py (rw e at i) old)
+  seen-after x y r px py i h =
+      let old : covered r (C .stamp y .id) ≡ true = rw (same-id y) at h in
+      elim (is-where a x) [
+        | here p e ↦ let j : In r (C .stamp a .id) = rw e at i in a-covers y r (own y r py j old) j
+        | there n e ↦ wider y r (q .seen x y r px py (rw e at i) old)
+      ]
 
   fresh-after : (x e : ℕ) → C .present x ≡ true → In e (D .events x) → e < D .next
-  fresh-after x e px i = by (is-where a x)
-    where
-      by : Where a x → e < D .next
-      by (here p c) =
-          ⊎-elim (λ h. omega arith) (λ h. let l = q .fresh a e pa h in omega arith) (let k : In e (C .next ∷ C .events a) = rw c at i in k)
-      by (there n c) = let l = q .fresh x e px (rw c at i) in omega arith
+  fresh-after x e px i = ⊎-elim (λ h. omega arith) (λ h. let l = q .fresh x e px h in omega arith) (event x e i)
 
   module _ (x : ℕ) (S : List ℕ) (px : C .present x ≡ true) (g : AllPresent C S) (some : 1 ≤ length S) where
     known-after : Within D x S → Under D x S
     unfolding update
-    known-after w r i = by (is-where a x)
-      where
-        by : Where a x → Covers D S r
-        by (here p c) =
-            among (λ b j h. a-covers b r (newest b (g b j) h) (rw c at i)) (w (C .next) (rw c (inl refl)))
-        by (there n c) =
-            let old : Within C x S = λ e j. among (λ b k h. less x b e px j h) (w e (more x e j)) in
-            among (λ b k h. wider b r h) (q .known x S px g some old r (rw c at i))
+    known-after w r i = elim (is-where a x) [
+      | here p c ↦ among (λ b j h. a-covers b r (newest b (g b j) h) (rw c at i)) (w (C .next) (rw c (inl refl)))
+      | there n c ↦
+          let old : Within C x S = λ e j. among (λ b k h. less x b e px j h) (w e (more x e j)) in
+          among (λ b k h. wider b r h) (q .known x S px g some old r (rw c at i))
+    ]
 
     shown-after : Under D x S → Within D x S
     unfolding update
-    shown-after u e i = by (is-where a x)
-      where
-        by : Where a x → Seen D S e
-        by (here p c) =
-            let s = q .nonempty a pa in
-            let t = covered-some (s .0) (C .stamp a .id) (below-each (C .stamp a .update) (C .stamp a .id) (q .proper a pa .belowId) (s .0) (s .1)) in
-            among (λ b k h. subst (λ (z : ℕ). In e (D .events z)) (p ∙ sym (own-update b (t .one) (g b k) (t .inside) h)) i) (u (t .one) (rw c (t .inside)))
-        by (there n c) =
-            let old : Under C x S = λ r j. among (λ b k h. narrower x b r px j h) (u r (rw c j)) in
-            among (λ b k h. more b e h) (q .shown x S px g some old e (rw c at i))
+    shown-after u e i = elim (is-where a x) [
+      | here p c ↦
+          let s = q .nonempty a pa in
+          let t = covered-some (s .0) (C .stamp a .id) (below-each (C .stamp a .update) (C .stamp a .id) (q .proper a pa .belowId) (s .0) (s .1)) in
+          among (λ b k h. subst (λ (z : ℕ). In e (D .events z)) (p ∙ sym (own-update b (t .one) (g b k) (t .inside) h)) i) (u (t .one) (rw c (t .inside)))
+      | there n c ↦
+          let old : Under C x S = λ r j. among (λ b k h. narrower x b r px j h) (u r (rw c j)) in
+          among (λ b k h. more b e h) (q .shown x S px g some old e (rw c at i))
+    ]
 
   pub update-sound : Sound (updated a C)
   update-sound = record {

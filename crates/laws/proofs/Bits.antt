@@ -1,8 +1,7 @@
 -- Numbers and their bits: a field of any width says the number's low bits, and bits are the field of the number that they say.
 -- Assumes nothing.
-use Rattle.laws.proofs.Library.{_≡_, refl, sym, ap, ap₂, _∙_, Bool, true, false, List, [], _∷_, _++_, ℕ, zero, suc, _+_, _*_, _-_, _/_, _%_, _^_}
-use Rattle.laws.proofs.Library.{_≤_, _<_, pow-suc, le-of-suc-le-suc, not-suc-le-zero, mul-assoc, mul-comm, add-mul, mod-eq-of-lt, mul-le-mul-right}
-use Rattle.laws.proofs.Library.{arith, eqb, mod-pow-add, high, length, getD, replicate}
+use Rattle.laws.proofs.Library.{_≡_, refl, ap, ap₂, _∙_, Bool, true, false, List, [], _∷_, _++_, ℕ, zero, suc, _+_, _*_, _/_, _%_, _^_, _<_, pow-suc}
+use Rattle.laws.proofs.Library.{mod-eq-of-lt, arith, eqb, mod-pow-add, pow-add, high, length, replicate}
 use Rattle.rules.specs.Strings.{digit, field, valueFrom, value}
 
 pub field-length : (w a : ℕ) → length (field w a) ≡ w
@@ -16,52 +15,22 @@ digit-eqb zero h = refl
 digit-eqb (suc zero) h = refl
 digit-eqb (suc (suc x)) h = absurd (omega arith)
 
-pub digit-lt : (x : Bool) → digit x < 2
-digit-lt true = omega arith
-digit-lt false = omega arith
-
--- bit j of a field, counted from the highest
-pub field-at : (k a j : ℕ) → j < k → getD (field k a) j false ≡ eqb (a / 2 ^ (k - 1 - j) % 2) 1
-unfolding field
-field-at zero a j h = absurd (not-suc-le-zero h)
-field-at (suc k) a zero h = ap (λ (n : ℕ). eqb (a / 2 ^ n % 2) 1) (omega arith)
-field-at (suc k) a (suc j) h = field-at k a j (le-of-suc-le-suc h) ∙ ap (λ (n : ℕ). eqb (a / 2 ^ n % 2) 1) (omega arith)
-
-pub value-snoc : (a : ℕ) (s : List Bool) (x : Bool) → valueFrom a (s ++ (x ∷ [])) ≡ valueFrom a s * 2 + digit x
-unfolding valueFrom
-value-snoc a [] x = refl
-value-snoc a (y ∷ s) x = value-snoc (a * 2 + digit y) s x
-
 pub value-append : (a : ℕ) (s t : List Bool) → valueFrom a (s ++ t) ≡ valueFrom (valueFrom a s) t
 unfolding valueFrom
 value-append a [] t = refl
 value-append a (x ∷ s) t = value-append (a * 2 + digit x) s t
 
-value-from-lt : (a : ℕ) (s : List Bool) → valueFrom a s < (a + 1) * 2 ^ length s
+pub value-snoc : (a : ℕ) (s : List Bool) (x : Bool) → valueFrom a (s ++ (x ∷ [])) ≡ valueFrom a s * 2 + digit x
 unfolding valueFrom
-value-from-lt a [] = omega arith
-value-from-lt a (x ∷ s) =
-    let h : (a * 2 + digit x + 1) * 2 ^ length s ≤ ((a + 1) * 2) * 2 ^ length s = mul-le-mul-right (2 ^ length s) (omega (arith, digit-lt x)) in
-    let e : (a + 1) * 2 ^ suc (length s) ≡ ((a + 1) * 2) * 2 ^ length s = ap (λ (n : ℕ). (a + 1) * n) (pow-suc 2 (length s) ∙ omega arith) ∙ sym (mul-assoc (a + 1) 2 (2 ^ length s)) in
-    omega (arith, value-from-lt (a * 2 + digit x) s)
-
-pub value-lt : (s : List Bool) → value s < 2 ^ length s
-value-lt s = omega (arith, value-from-lt 0 s)
-
-spread : (a t m p : ℕ) → (a * 2 + t) * p + m ≡ a * (p * 2) + (t * p + m)
-spread a t m p =
-    let e : (a * 2 + t) * p ≡ a * 2 * p + t * p = add-mul (a * 2) t p in
-    let f : a * 2 * p ≡ a * (p * 2) = mul-assoc a 2 p ∙ ap (λ (n : ℕ). a * n) (mul-comm 2 p) in
-    omega arith
+value-snoc a s x = value-append a s (x ∷ [])
 
 value-from-field : (a w v : ℕ) → valueFrom a (field w v) ≡ a * 2 ^ w + v % 2 ^ w
 unfolding valueFrom field
 value-from-field a zero v = omega arith
 value-from-field a (suc w) v =
-    value-from-field (a * 2 + digit (eqb (v / 2 ^ w % 2) 1)) w v
-    ∙ ap (λ (t : ℕ). (a * 2 + t) * 2 ^ w + v % 2 ^ w) (digit-eqb (v / 2 ^ w % 2) (omega arith))
-    ∙ spread a (v / 2 ^ w % 2) (v % 2 ^ w) (2 ^ w)
-    ∙ ap₂ (λ (m n : ℕ). a * m + n) (sym (pow-suc 2 w)) (sym (mod-pow-add v 1 w) ∙ ap (λ (n : ℕ). v % 2 ^ n) (let e : 1 + w ≡ suc w = omega arith in e))
+    let e : suc w ≡ 1 + w = omega arith in
+    let d = v / 2 ^ w % 2 in
+    rw (value-from-field (a * 2 + digit (eqb d 1)) w v, digit-eqb d (omega arith), e, mod-pow-add v 1 w, pow-add 2 1 w) (omega arith)
 
 -- a field of any width says the number's low bits
 pub value-field : (w v : ℕ) → value (field w v) ≡ v % 2 ^ w
@@ -74,10 +43,13 @@ value-field-exact w v h = value-field w v ∙ mod-eq-of-lt h
 pub value-shift : (a : ℕ) (s : List Bool) → valueFrom a s ≡ a * 2 ^ length s + value s
 unfolding valueFrom
 value-shift a [] = omega arith
-value-shift a (x ∷ s) =
-    value-shift (a * 2 + digit x) s
-    ∙ spread a (digit x) (value s) (2 ^ length s)
-    ∙ ap₂ (λ (m n : ℕ). a * m + n) (sym (pow-suc 2 (length s))) (sym (value-shift (digit x) s) ∙ ap (λ (n : ℕ). valueFrom n s) (let e : digit x ≡ 0 * 2 + digit x = omega arith in e))
+value-shift a (x ∷ s) = rw (value-shift (a * 2 + digit x) s, value-shift (0 * 2 + digit x) s, pow-suc 2 (length s)) (omega arith)
+
+pub value-lt : (s : List Bool) → value s < 2 ^ length s
+unfolding valueFrom
+value-lt [] = omega arith
+value-lt (true ∷ s) = omega (arith, value-shift 1 s, value-lt s, pow-suc 2 (length s))
+value-lt (false ∷ s) = omega (arith, value-lt s, pow-suc 2 (length s))
 
 odd-digit : (a : ℕ) (x : Bool) → eqb ((a * 2 + digit x) % 2) 1 ≡ x
 odd-digit a true = ap (λ (n : ℕ). eqb n 1) (let e : (a * 2 + 1) % 2 ≡ 1 = omega arith in e)

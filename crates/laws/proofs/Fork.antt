@@ -1,44 +1,27 @@
 -- A name with one digit appended to each string: as many strings, still in rising order, no two of them siblings since all end alike;
 -- and it covers what the name covers and its own strings besides. Assumes nothing.
-use Rattle.laws.proofs.Library.{_≡_, refl, sym, ap, _∙_, subst, Bool, true, false, [], _∷_, dropLast, _⊎_, inl, inr, ⊎-elim, none, ℕ, suc, _≤_}
-use Rattle.laws.proofs.Library.{arith, eqb, leb, length, length-map, leb-true, eqb-false, le-leb}
-use Rattle.rules.specs.Strings.{Str, prefix, less, _▹_}
+use Rattle.laws.proofs.Library.{_≡_, refl, sym, ap, _∙_, subst, Bool, true, false, [], _∷_, _⊎_, inl, inr, ⊎-elim, none, ℕ, suc, _≤_, arith, eqb, leb}
+use Rattle.laws.proofs.Library.{length, drop, drop-at, length-map, leb-true, eqb-false, le-leb}
+use Rattle.rules.specs.Strings.{Str, prefix, _▹_}
 use Rattle.rules.specs.Names.{Name, any, all, rising, covered, below}
 use Rattle.rules.specs.Stamps.{pair, append}
 use Rattle.laws.proofs.Tests.{no, In, any-none, all-each, each-all}
-use Rattle.laws.proofs.Prefix.{prefix-trans, prefix-grown, prefix-of-grown}
-use Rattle.laws.proofs.Rising.{rising-head, rising-tail, rising-cons}
-use Rattle.laws.proofs.Below.{covered-some, some-covered, below-each, each-below}
-use Rattle.laws.proofs.Settle.{drop-grown, none-pair}
+use Rattle.laws.proofs.Prefix.{prefix-grown, prefix-of-grown}
+use Rattle.laws.proofs.Rising.{less-append, rising-head, rising-tail, rising-cons}
+use Rattle.laws.proofs.Below.{covered-some, some-covered, below-trans, each-below}
+use Rattle.laws.proofs.Settle.{none-pair}
+use Rattle.laws.proofs.Steps.{grown-same}
 use Rattle.laws.proofs.Shares.{grown-length}
 
 -- ---- one string
 
--- the last digit of a string, or the one given
-final : Bool → Str → Bool
-final a [] = a
-final a (b ∷ s) = final b s
-
-final-grown : (a : Bool) (s : Str) (d : Bool) → final a (s ▹ d) ≡ d
-unfolding final
-final-grown a [] d = refl
-final-grown a (b ∷ s) d = final-grown b s d
-
 -- a string with a digit more tells both
 pub grown-is : (s t : Str) (a b : Bool) → s ▹ a ≡ t ▹ b → (s ≡ t) × (a ≡ b)
-grown-is s t a b e = (
-  sym (drop-grown s a) ∙ ap dropLast e ∙ drop-grown t b,
-  sym (final-grown a s a) ∙ ap (final a) e ∙ final-grown a t b,
-)
-
-less-grown : (s t : Str) (d : Bool) → less s t ≡ true → less (s ▹ d) (t ▹ d) ≡ true
-unfolding less
-less-grown [] t d p = absurd (no p)
-less-grown (a ∷ s) [] d p = absurd (no p)
-less-grown (true ∷ s) (true ∷ t) d p = less-grown s t d p
-less-grown (false ∷ s) (false ∷ t) d p = less-grown s t d p
-less-grown (false ∷ s) (true ∷ t) d p = refl
-less-grown (true ∷ s) (false ∷ t) d p = absurd (no p)
+grown-is s t a b e =
+    let p = grown-same s t a b e in
+    let q : a ∷ [] ≡ b ∷ [] =
+    sym (drop-at s (a ∷ []) (length s) refl) ∙ ap (drop (length s)) e ∙ drop-at t (b ∷ []) (length s) (ap length (sym p)) in
+    (p, cc)
 
 -- ---- each string of a name
 
@@ -72,7 +55,7 @@ module _ (d : Bool) where
   append-rising (s ∷ i) h =
       rising-cons (s ▹ d) (append d i)
       (λ x j. let g = append-in i x j in
-      subst (λ (y : Str). less (s ▹ d) y ≡ true) (sym (g .grown)) (less-grown s (g .root) d (rising-head s i h (g .root) (g .inside))))
+      rw (g .grown) (less-append s (g .root) (d ∷ []) (d ∷ []) (rising-head s i h (g .root) (g .inside))))
       (append-rising i (rising-tail s i h))
 
   -- what it covers, the name covers, or it is one of its own strings
@@ -83,14 +66,10 @@ module _ (d : Bool) where
       ⊎-elim (λ p. inl (some-covered r i (g .root) (g .inside) p)) (λ p. inr (subst (λ (y : Str). In y (append d i)) (g .grown ∙ sym p) (c .inside)))
       (prefix-of-grown r (g .root) d (subst (λ (y : Str). prefix r y ≡ true) (g .grown) (c .passes)))
 
-  pub append-covered : (r : Str) (i : Name) → covered r i ≡ true → covered r (append d i) ≡ true
-  append-covered r i e =
-      let c = covered-some r i e in
-      some-covered r (append d i) (c .one ▹ d) (in-append-digit i (c .one) (c .inside))
-      (prefix-trans r (c .one) (c .one ▹ d) (c .passes) (prefix-grown (c .one) d))
-
   pub below-append : (u i : Name) → below u i ≡ true → below u (append d i) ≡ true
-  below-append u i b = each-below u (append d i) (λ s j. append-covered s i (below-each u i b s j))
+  below-append u i b =
+      below-trans u i (append d i) b
+      (each-below i (append d i) (λ s j. some-covered s (append d i) (s ▹ d) (in-append-digit i s j) (prefix-grown s d)))
 
   pub append-no-pair : (i : Name) → pair (append d i) ≡ none
   append-no-pair i = none-pair (append d i) (λ s j k. no (ends s false j ∙ sym (ends s true k)))

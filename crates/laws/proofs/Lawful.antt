@@ -1,14 +1,14 @@
 -- Lawful stamps stay lawful: the first one is, and update, fork and join make them of lawful ones, where the limits do not refuse.
 -- Since u is below i, the limits are asked of i alone: u has no more strings than i, and none longer. Assumes nothing.
-use Rattle.laws.proofs.Library.{_≡_, refl, sym, ap, subst, Bool, true, false, _&&_, [], _∷_, inl, ⊎-elim, Option, none, some, ℕ, _≤_, suc-le-suc}
-use Rattle.laws.proofs.Library.{zero-le, le-trans, arith, leb, length, leb-true, le-leb, ltb-false}
+use Rattle.laws.proofs.Library.{_≡_, refl, ap, Bool, true, false, _&&_, [], _∷_, inl, ⊎-elim, Option, none, some, ℕ, _≤_, le-trans, arith, leb, length}
+use Rattle.laws.proofs.Library.{leb-true, le-leb, ltb-false}
 use Rattle.rules.specs.Limits.{Limits}
 use Rattle.rules.specs.Strings.{Str, same}
 use Rattle.rules.specs.Names.{Name, any, all, member, rising, isName, below, union}
 use Rattle.rules.specs.Stamps.{Stamp, pairAmong, pair, isNone, lawful, start, update, append, fork, settled, reduce, unite, join, compare}
 use Rattle.rules.specs.Refusals.{long, many}
 use Rattle.rules.specs.declared.Verdict.the-variants.{Equal}
-use Rattle.laws.proofs.Tests.{no, and-left, and-right, and-both, In, in-append, all-each, each-all}
+use Rattle.laws.proofs.Tests.{no, and-left, and-right, and-both, In, in-append, in-filled, all-each, each-all}
 use Rattle.laws.proofs.Prefix.{prefix-length}
 use Rattle.laws.proofs.Below.{covered-some, below-each, below-refl}
 use Rattle.laws.proofs.Union.{union-top, union-rising, below-union-left, union-mono}
@@ -30,10 +30,10 @@ four a b c d e =
 abbrev pub Short : ℕ → Name → Type 0
 Short most n = (s : Str) → In s n → length s ≤ most
 
-short-all : (most : ℕ) (n : Name) → Short most n → all (λ s. leb (length s) most) n ≡ true
+pub short-all : (most : ℕ) (n : Name) → Short most n → all (λ s. leb (length s) most) n ≡ true
 short-all most n f = each-all (λ s. leb (length s) most) n (λ s i. le-leb (length s) most (f s i))
 
-all-short : (most : ℕ) (n : Name) → all (λ s. leb (length s) most) n ≡ true → Short most n
+pub all-short : (most : ℕ) (n : Name) → all (λ s. leb (length s) most) n ≡ true → Short most n
 all-short most n e s i = leb-true (length s) most (all-each (λ t. leb (length t) most) n e s i)
 
 -- "A name is a set of 1 to 16 strings, none a prefix of another", each of 0 to 24 digits
@@ -96,14 +96,10 @@ module _ (L : Limits) (x : Stamp) where
 
 -- ---- what u below i spares
 
-in-filled : (n : Name) (s : Str) → In s n → 1 ≤ length n
-in-filled [] s i = absurd i
-in-filled (t ∷ n) s i = suc-le-suc zero-le
-
 -- what is above a name that has strings has some
 filled-below : (m n : Name) → below m n ≡ true → 1 ≤ length m → 1 ≤ length n
 filled-below [] n b h = absurd (omega arith)
-filled-below (s ∷ m) n b h = let c = covered-some s n (below-each (s ∷ m) n b s (inl refl)) in in-filled n (c .one) (c .inside)
+filled-below (s ∷ m) n b h = let c = covered-some s n (below-each (s ∷ m) n b s (inl refl)) in in-filled (c .one) n (c .inside)
 
 -- what is below a name of short strings has none longer
 short-below : (most : ℕ) (m n : Name) → below m n ≡ true → Short most n → Short most m
@@ -148,14 +144,17 @@ lawful-update L x e =
     let p = lawful-parts L x e in
     parts-lawful L (update x) record { updateNamed = p .idNamed; idNamed = p .idNamed; belowId = below-refl (x .id); normal = p .normal }
 
+pub fork-proper : (d : Bool) (x : Stamp) → Proper x → Proper (fork d x)
+unfolding fork
+fork-proper d x p =
+    record { updateRising = p .updateRising; idRising = append-rising d (x .id) (p .idRising); belowId = below-append d (x .update) (x .id) (p .belowId) }
+
 pub lawful-fork : (L : Limits) (d : Bool) (x : Stamp) → lawful L x ≡ true → long L x ≡ false → lawful L (fork d x) ≡ true
 unfolding fork long
 lawful-fork L d x e h =
     let p = lawful-parts L x e in
     let n = p .idNamed in
-    lawful-made L (fork d x)
-    record { updateRising = p .updateNamed .rises; idRising = append-rising d (x .id) (n .rises); belowId = below-append d (x .update) (x .id) (p .belowId) }
-    (p .updateNamed .filled) (subst (λ (k : ℕ). k ≤ L .strings) (sym (append-length d (x .id))) (n .few))
+    lawful-made L (fork d x) (fork-proper d x (lawful-proper L x e)) (p .updateNamed .filled) (rw (append-length d (x .id)) (n .few))
     (all-short (L .digits) (append d (x .id)) (append-short d (L .digits) (x .id) (short-all (L .digits) (x .id) (n .short)) h))
     (append-no-pair d (x .id))
 
@@ -168,18 +167,16 @@ unite-proper a b p q = record {
   belowId = union-mono (a .update) (b .update) (a .id) (b .id) (p .belowId) (q .belowId);
 }
 
-union-short : (most : ℕ) (m n : Name) → Short most m → Short most n → Short most (union m n)
-union-short most m n f g s i = ⊎-elim (λ h. f s h) (λ h. g s h) (in-append s m n (union-top m n s i .inside))
-
 -- a string in u, and none too long in i
 abbrev Sized : ℕ → Stamp → Type 0
 Sized most x = (1 ≤ length (x .update)) × Short most (x .id)
 
 unite-sized : (most : ℕ) (a b : Stamp) → Sized most a → Sized most b → Sized most (unite a b)
 unfolding unite
-unite-sized most a b p q =
-    let u = union (a .update) (b .update) in
-    (filled-below (a .update) u (below-union-left (a .update) (b .update)) (p .0), union-short most (a .id) (b .id) (p .1) (q .1))
+unite-sized most a b p q = (
+  filled-below (a .update) (union (a .update) (b .update)) (below-union-left (a .update) (b .update)) (p .0),
+  λ s i. ⊎-elim (p .1 s) (q .1 s) (in-append s (a .id) (b .id) (union-top (a .id) (b .id) s i .inside)),
+)
 
 reduce-sized : (most : ℕ) (x : Stamp) → Proper x → Sized most x → Sized most (reduce x)
 unfolding settled

@@ -1,48 +1,64 @@
--- Prefix is an order on strings, and two prefixes of one string are comparable. Assumes nothing.
-use Rattle.laws.proofs.Library.{_≡_, refl, ap, subst, Bool, true, false, [], _∷_, _++_, _⊎_, inl, inr, ⊎-elim, _≤_, suc-le-suc, arith, length}
+-- Prefix is an order on strings: a prefix is the first part of that length, and of two first parts of one string the shorter is one of the
+-- longer. Assumes nothing.
+use Rattle.laws.proofs.Library.{_≡_, refl, sym, ap, ap₂, _∙_, Bool, Bool·beq, true, false, [], _∷_, _++_, append-nil, append-snoc, _⊎_, inl, inr}
+use Rattle.laws.proofs.Library.{⊎-elim, _≤_, arith, length, drop, length-append, length-take, take, take-all, take-append-drop, take-take}
 use Rattle.rules.specs.Strings.{Str, prefix, same, _▹_}
-use Rattle.laws.proofs.Tests.{no, clash, not-true}
+use Rattle.laws.proofs.Tests.{no, clash, not-true, and-left, and-right, at-most}
+
+beq-is : (a b : Bool) → Bool·beq a b ≡ true → a ≡ b
+beq-is true true e = refl
+beq-is false false e = refl
+beq-is true false e = absurd (no e)
+beq-is false true e = absurd (no e)
+
+-- ---- first parts
+
+pub prefix-append : (s t : Str) → prefix s (s ++ t) ≡ true
+unfolding prefix
+prefix-append [] t = refl
+prefix-append (true ∷ s) t = prefix-append s t
+prefix-append (false ∷ s) t = prefix-append s t
 
 pub prefix-refl : (s : Str) → prefix s s ≡ true
+prefix-refl s = rw append-nil at (prefix-append s [])
+
+prefix-first : (s t : Str) → prefix s t ≡ true → take (length s) t ≡ s
 unfolding prefix
-prefix-refl [] = refl
-prefix-refl (true ∷ s) = prefix-refl s
-prefix-refl (false ∷ s) = prefix-refl s
+prefix-first [] t p = refl
+prefix-first (a ∷ s) [] p = absurd (no p)
+prefix-first (a ∷ s) (b ∷ t) p =
+    ap₂ (λ (x : Bool) (l : Str). x ∷ l) (sym (beq-is a b (and-left (Bool·beq a b) (prefix s t) p))) (prefix-first s t (and-right (Bool·beq a b) (prefix s t) p))
+
+first-prefix : (s t : Str) → take (length s) t ≡ s → prefix s t ≡ true
+first-prefix s t e = rw (take-append-drop, e) at (prefix-append (take (length s) t) (drop (length s) t))
+
+pub prefix-length : (s t : Str) → prefix s t ≡ true → length s ≤ length t
+prefix-length s t p = omega (arith, length-take (length s) t, ap length (prefix-first s t p))
+
+-- a prefix of the same length is all of it
+pub prefix-whole : (s t : Str) → prefix s t ≡ true → length t ≤ length s → s ≡ t
+prefix-whole s t p h = sym (prefix-first s t p) ∙ take-all (length s) t h
+
+-- ---- the order
 
 pub prefix-trans : (s t u : Str) → prefix s t ≡ true → prefix t u ≡ true → prefix s u ≡ true
-unfolding prefix
-prefix-trans [] t u p q = refl
-prefix-trans (a ∷ s) [] u p q = absurd (no p)
-prefix-trans (a ∷ s) (b ∷ t) [] p q = absurd (no q)
-prefix-trans (true ∷ s) (true ∷ t) (true ∷ u) p q = prefix-trans s t u p q
-prefix-trans (false ∷ s) (false ∷ t) (false ∷ u) p q = prefix-trans s t u p q
-prefix-trans (true ∷ s) (true ∷ t) (false ∷ u) p q = absurd (no q)
-prefix-trans (false ∷ s) (false ∷ t) (true ∷ u) p q = absurd (no q)
-prefix-trans (true ∷ s) (false ∷ t) (c ∷ u) p q = absurd (no p)
-prefix-trans (false ∷ s) (true ∷ t) (c ∷ u) p q = absurd (no p)
+prefix-trans s t u p q =
+    first-prefix s u
+    (sym (take-take (length s) (length t) u (prefix-length s t p)) ∙ ap (take (length s)) (prefix-first t u q) ∙ prefix-first s t p)
 
 pub prefix-antisym : (s t : Str) → prefix s t ≡ true → prefix t s ≡ true → s ≡ t
-unfolding prefix
-prefix-antisym [] [] p q = refl
-prefix-antisym [] (b ∷ t) p q = absurd (no q)
-prefix-antisym (a ∷ s) [] p q = absurd (no p)
-prefix-antisym (true ∷ s) (true ∷ t) p q = ap (λ (l : Str). true ∷ l) (prefix-antisym s t p q)
-prefix-antisym (false ∷ s) (false ∷ t) p q = ap (λ (l : Str). false ∷ l) (prefix-antisym s t p q)
-prefix-antisym (true ∷ s) (false ∷ t) p q = absurd (no p)
-prefix-antisym (false ∷ s) (true ∷ t) p q = absurd (no p)
+prefix-antisym s t p q = prefix-whole s t p (prefix-length t s q)
 
--- two prefixes of one string: one is a prefix of the other
+-- of two prefixes of one string the shorter is one of the longer
+prefix-shorter : (s t u : Str) → prefix s u ≡ true → prefix t u ≡ true → length s ≤ length t → prefix s t ≡ true
+prefix-shorter s t u p q h =
+    first-prefix s t (ap (take (length s)) (sym (prefix-first t u q)) ∙ take-take (length s) (length t) u h ∙ prefix-first s u p)
+
 pub prefix-comparable : (s t u : Str) → prefix s u ≡ true → prefix t u ≡ true → (prefix s t ≡ true) ⊎ (prefix t s ≡ true)
-unfolding prefix
-prefix-comparable [] t u p q = inl refl
-prefix-comparable (a ∷ s) [] u p q = inr refl
-prefix-comparable (a ∷ s) (b ∷ t) [] p q = absurd (no p)
-prefix-comparable (true ∷ s) (true ∷ t) (true ∷ u) p q = prefix-comparable s t u p q
-prefix-comparable (false ∷ s) (false ∷ t) (false ∷ u) p q = prefix-comparable s t u p q
-prefix-comparable (true ∷ s) (b ∷ t) (false ∷ u) p q = absurd (no p)
-prefix-comparable (false ∷ s) (b ∷ t) (true ∷ u) p q = absurd (no p)
-prefix-comparable (true ∷ s) (false ∷ t) (true ∷ u) p q = absurd (no q)
-prefix-comparable (false ∷ s) (true ∷ t) (false ∷ u) p q = absurd (no q)
+prefix-comparable s t u p q =
+    ⊎-elim (λ h. inl (prefix-shorter s t u p q h)) (λ h. inr (prefix-shorter t s u q p (omega arith))) (at-most (length s) (length t))
+
+-- ---- the same
 
 pub same-refl : (s : Str) → same s s ≡ true
 unfolding same
@@ -55,89 +71,38 @@ unfolding same
 same-is [] [] e = refl
 same-is [] (b ∷ t) e = absurd (no e)
 same-is (a ∷ s) [] e = absurd (no e)
-same-is (true ∷ s) (true ∷ t) e = ap (λ (l : Str). true ∷ l) (same-is s t e)
-same-is (false ∷ s) (false ∷ t) e = ap (λ (l : Str). false ∷ l) (same-is s t e)
-same-is (true ∷ s) (false ∷ t) e = absurd (no e)
-same-is (false ∷ s) (true ∷ t) e = absurd (no e)
+same-is (a ∷ s) (b ∷ t) e =
+    ap₂ (λ (x : Bool) (l : Str). x ∷ l) (beq-is a b (and-left (Bool·beq a b) (same s t) e)) (same-is s t (and-right (Bool·beq a b) (same s t) e))
 
 pub is-same : {s t : Str} → s ≡ t → same s t ≡ true
-is-same {s} p = subst (λ (x : Str). same s x ≡ true) p (same-refl s)
+is-same {s} {t} p = rw p (same-refl t)
 
 pub not-same : {s t : Str} → same s t ≡ false → s ≡ t → ⊥
 not-same e p = clash (is-same p) e
 
 -- ---- one digit more
 
-pub prefix-append : (s t : Str) → prefix s (s ++ t) ≡ true
-unfolding prefix
-prefix-append [] t = refl
-prefix-append (true ∷ s) t = prefix-append s t
-prefix-append (false ∷ s) t = prefix-append s t
-
 pub prefix-grown : (s : Str) (d : Bool) → prefix s (s ▹ d) ≡ true
 prefix-grown s d = prefix-append s (d ∷ [])
 
 -- a prefix of s with a digit more is a prefix of s, or all of it
 pub prefix-of-grown : (r s : Str) (d : Bool) → prefix r (s ▹ d) ≡ true → (prefix r s ≡ true) ⊎ (r ≡ s ▹ d)
-unfolding prefix
-prefix-of-grown [] s d p = inl refl
-prefix-of-grown (true ∷ []) [] true p = inr refl
-prefix-of-grown (false ∷ []) [] false p = inr refl
-prefix-of-grown (true ∷ []) [] false p = absurd (no p)
-prefix-of-grown (false ∷ []) [] true p = absurd (no p)
-prefix-of-grown (true ∷ (b ∷ r)) [] true p = absurd (no p)
-prefix-of-grown (false ∷ (b ∷ r)) [] false p = absurd (no p)
-prefix-of-grown (true ∷ (b ∷ r)) [] false p = absurd (no p)
-prefix-of-grown (false ∷ (b ∷ r)) [] true p = absurd (no p)
-prefix-of-grown (true ∷ r) (true ∷ s) d p = ⊎-elim (λ h. inl h) (λ h. inr (ap (λ (l : Str). true ∷ l) h)) (prefix-of-grown r s d p)
-prefix-of-grown (false ∷ r) (false ∷ s) d p = ⊎-elim (λ h. inl h) (λ h. inr (ap (λ (l : Str). false ∷ l) h)) (prefix-of-grown r s d p)
-prefix-of-grown (true ∷ r) (false ∷ s) d p = absurd (no p)
-prefix-of-grown (false ∷ r) (true ∷ s) d p = absurd (no p)
+prefix-of-grown r s d p =
+    ⊎-elim (λ h. inl (prefix-shorter r s (s ▹ d) p (prefix-grown s d) h))
+    (λ h. inr (prefix-whole r (s ▹ d) p (omega (arith, length-append s (d ∷ []))))) (at-most (length r) (length s))
 
 -- what extends s is s, or goes on with 0, or goes on with 1
 pub prefix-goes-on : (s t : Str) → prefix s t ≡ true → (s ≡ t) ⊎ ((prefix (s ▹ false) t ≡ true) ⊎ (prefix (s ▹ true) t ≡ true))
-unfolding prefix
-prefix-goes-on [] [] p = inl refl
-prefix-goes-on [] (false ∷ t) p = inr (inl refl)
-prefix-goes-on [] (true ∷ t) p = inr (inr refl)
-prefix-goes-on (a ∷ s) [] p = absurd (no p)
-prefix-goes-on (true ∷ s) (true ∷ t) p = ⊎-elim (λ h. inl (ap (λ (l : Str). true ∷ l) h)) (λ h. inr h) (prefix-goes-on s t p)
-prefix-goes-on (false ∷ s) (false ∷ t) p = ⊎-elim (λ h. inl (ap (λ (l : Str). false ∷ l) h)) (λ h. inr h) (prefix-goes-on s t p)
-prefix-goes-on (true ∷ s) (false ∷ t) p = absurd (no p)
-prefix-goes-on (false ∷ s) (true ∷ t) p = absurd (no p)
+prefix-goes-on s t p = rw (← whole) (by (drop (length s) t))
+  where
+    whole : s ++ drop (length s) t ≡ t
+    whole = rw (prefix-first s t p) at (take-append-drop (length s) t)
 
--- s0 and s1 are apart
-pub siblings-apart : (s : Str) → (prefix (s ▹ false) (s ▹ true) ≡ false) × (prefix (s ▹ true) (s ▹ false) ≡ false)
-unfolding prefix
-siblings-apart [] = (refl, refl)
-siblings-apart (true ∷ s) = siblings-apart s
-siblings-apart (false ∷ s) = siblings-apart s
+    by : (r : Str) → (s ≡ s ++ r) ⊎ ((prefix (s ▹ false) (s ++ r) ≡ true) ⊎ (prefix (s ▹ true) (s ++ r) ≡ true))
+    by [] = inl (sym (append-nil s))
+    by (false ∷ r) = inr (inl (rw append-snoc at (prefix-append (s ▹ false) r)))
+    by (true ∷ r) = inr (inr (rw append-snoc at (prefix-append (s ▹ true) r)))
 
 -- nothing is a prefix of a shorter part of itself
 pub grown-not-prefix : (s : Str) (d : Bool) → prefix (s ▹ d) s ≡ false
-unfolding prefix
-grown-not-prefix [] d = refl
-grown-not-prefix (true ∷ s) d = grown-not-prefix s d
-grown-not-prefix (false ∷ s) d = grown-not-prefix s d
-
--- ---- lengths
-
-pub prefix-length : (s t : Str) → prefix s t ≡ true → length s ≤ length t
-unfolding prefix
-prefix-length [] t p = omega arith
-prefix-length (a ∷ s) [] p = absurd (no p)
-prefix-length (true ∷ s) (true ∷ t) p = suc-le-suc (prefix-length s t p)
-prefix-length (false ∷ s) (false ∷ t) p = suc-le-suc (prefix-length s t p)
-prefix-length (true ∷ s) (false ∷ t) p = absurd (no p)
-prefix-length (false ∷ s) (true ∷ t) p = absurd (no p)
-
--- a prefix of the same length is all of it
-pub prefix-whole : (s t : Str) → prefix s t ≡ true → length t ≤ length s → s ≡ t
-unfolding prefix
-prefix-whole [] [] p h = refl
-prefix-whole [] (b ∷ t) p h = absurd (omega arith)
-prefix-whole (a ∷ s) [] p h = absurd (no p)
-prefix-whole (true ∷ s) (true ∷ t) p h = ap (λ (l : Str). true ∷ l) (prefix-whole s t p (omega arith))
-prefix-whole (false ∷ s) (false ∷ t) p h = ap (λ (l : Str). false ∷ l) (prefix-whole s t p (omega arith))
-prefix-whole (true ∷ s) (false ∷ t) p h = absurd (no p)
-prefix-whole (false ∷ s) (true ∷ t) p h = absurd (no p)
+grown-not-prefix s d = not-true (λ p. omega (arith, prefix-length (s ▹ d) s p, length-append s (d ∷ [])))

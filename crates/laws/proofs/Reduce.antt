@@ -1,11 +1,9 @@
 -- Reduction ends in a normal form, since each step leaves one string less in the id; and any order of steps ends there,
 -- since different steps commute. Assumes nothing.
-use Rattle.laws.proofs.Library.{_≡_, refl, sym, ap, _∙_, subst, true, false, [], _∷_, _⊎_, inl, inr, Option, none, some, ℕ, zero, suc, _≤_, arith}
-use Rattle.laws.proofs.Library.{length}
+use Rattle.laws.proofs.Library.{_≡_, refl, sym, ap, _∙_, subst, true, false, inl, inr, Option, none, some, ℕ, zero, suc, _≤_, arith, length}
 use Rattle.rules.specs.Strings.{Str, same, _▹_}
-use Rattle.rules.specs.Names.{Name}
 use Rattle.rules.specs.Stamps.{Stamp, pair, settled, reduceBy, reduce}
-use Rattle.laws.proofs.Tests.{decide, In}
+use Rattle.laws.proofs.Tests.{decide, In, in-filled}
 use Rattle.laws.proofs.Prefix.{same-is, not-same}
 use Rattle.laws.proofs.Settle.{pair-in, pair-none, none-pair}
 use Rattle.laws.proofs.Steps.{Proper, Steps, stop, step, settled-proper, settled-shorter, step-stays, steps-commute}
@@ -25,39 +23,36 @@ turn k x = by (pair (x .id)) refl
 
 -- ---- at most k steps
 
-by-keeps : (P : Stamp → Type 0)
-    → ((s : Str) (x : Stamp) → Proper x → In (s ▹ false) (x .id) → In (s ▹ true) (x .id) → P x → P (settled s x))
-    → (k : ℕ) (x : Stamp) → Proper x → P x → P (reduceBy k x)
-unfolding reduceBy
-by-keeps P f zero x ok p = p
-by-keeps P f (suc k) x ok p = by (turn k x) (λ y. by-keeps P f k y)
-  where
-    by : Turn k x → ((y : Stamp) → Proper y → P y → P (reduceBy k y)) → P (reduceBy (suc k) x)
-    by (done n e) ih = subst P (sym e) p
-    by (goes s a b e) ih = subst P (sym e) (ih (settled s x) (settled-proper s x ok a b) (f s x ok a b p))
+-- what every step keeps, reduction keeps
+module _ (P : Stamp → Type 0) (f : (s : Str) (x : Stamp) → Proper x → In (s ▹ false) (x .id) → In (s ▹ true) (x .id) → P x → P (settled s x)) where
+  by-keeps : (k : ℕ) (x : Stamp) → Proper x → P x → P (reduceBy k x)
+  unfolding reduceBy
+  by-keeps zero x ok p = p
+  by-keeps (suc k) x ok p = elim (turn k x) [
+    | done n e ↦ subst P (sym e) p
+    | goes s a b e ↦ subst P (sym e) (by-keeps k (settled s x) (settled-proper s x ok a b) (f s x ok a b p))
+  ]
+
+  pub reduce-keeps : (x : Stamp) → Proper x → P x → P (reduce x)
+  unfolding reduce
+  reduce-keeps x ok p = by-keeps (length (x .id)) x ok p
 
 by-steps : (k : ℕ) (x : Stamp) → Steps x (reduceBy k x)
 unfolding reduceBy
 by-steps zero x = stop
-by-steps (suc k) x = by (turn k x) (λ y. by-steps k y)
-  where
-    by : Turn k x → ((y : Stamp) → Steps y (reduceBy k y)) → Steps x (reduceBy (suc k) x)
-    by (done n e) ih = subst (Steps x) (sym e) stop
-    by (goes s a b e) ih = subst (Steps x) (sym e) (step s a b (ih (settled s x)))
+by-steps (suc k) x = elim (turn k x) [
+  | done n e ↦ subst (Steps x) (sym e) stop
+  | goes s a b e ↦ subst (Steps x) (sym e) (step s a b (by-steps k (settled s x)))
+]
 
 -- k steps suffice for an id of k strings
 by-normal : (k : ℕ) (x : Stamp) → Proper x → length (x .id) ≤ k → pair (reduceBy k x .id) ≡ none
 unfolding reduceBy
-by-normal zero x ok h = none-pair (x .id) (λ s i j. empty s (x .id) h i)
-  where
-    empty : (s : Str) (n : Name) → length n ≤ 0 → In (s ▹ false) n → ⊥
-    empty s [] h i = i
-    empty s (t ∷ n) h i = omega arith
-by-normal (suc k) x ok h = by (turn k x) (λ y. by-normal k y)
-  where
-    by : Turn k x → ((y : Stamp) → Proper y → length (y .id) ≤ k → pair (reduceBy k y .id) ≡ none) → pair (reduceBy (suc k) x .id) ≡ none
-    by (done n e) ih = rw e n
-    by (goes s a b e) ih = rw e (ih (settled s x) (settled-proper s x ok a b) (omega (arith, settled-shorter s x ok a b)))
+by-normal zero x ok h = none-pair (x .id) (λ s i j. omega (arith, in-filled (s ▹ false) (x .id) i))
+by-normal (suc k) x ok h = elim (turn k x) [
+  | done n e ↦ rw e n
+  | goes s a b e ↦ rw e (by-normal k (settled s x) (settled-proper s x ok a b) (omega (arith, settled-shorter s x ok a b)))
+]
 
 by-self : (k : ℕ) (x : Stamp) → pair (x .id) ≡ none → reduceBy k x ≡ x
 unfolding reduceBy
@@ -65,13 +60,6 @@ by-self zero x e = refl
 by-self (suc k) x e = rw (e, reduceBy)
 
 -- ---- reduction
-
--- what every step keeps, reduction keeps
-pub reduce-keeps : (P : Stamp → Type 0)
-    → ((s : Str) (x : Stamp) → Proper x → In (s ▹ false) (x .id) → In (s ▹ true) (x .id) → P x → P (settled s x))
-    → (x : Stamp) → Proper x → P x → P (reduce x)
-unfolding reduce
-reduce-keeps P f x ok p = by-keeps P f (length (x .id)) x ok p
 
 pub reduce-proper : (x : Stamp) → Proper x → Proper (reduce x)
 reduce-proper x ok = reduce-keeps Proper (λ s y p i j q. settled-proper s y p i j) x ok ok
@@ -102,40 +90,32 @@ record First (x : Stamp) : Type 0 where
 -- where there is some step, reduction takes one
 first : (s : Str) (x : Stamp) → Proper x → In (s ▹ false) (x .id) → In (s ▹ true) (x .id) → First x
 unfolding reduce
-first s x ok a b = by (turn (length (settled s x .id)) x)
-  where
-    by : Turn (length (settled s x .id)) x → First x
-    by (done n e) = absurd (pair-none (x .id) n s a b)
-    by (goes t c d e) =
-        let k : length (settled t x .id) ≡ length (settled s x .id) = omega (arith, settled-shorter s x ok a b, settled-shorter t x ok c d) in
-        record { at = t; zero-in = c; one-in = d; same-end = rw (k, ← settled-shorter s x ok a b) (sym e) }
+first s x ok a b = elim (turn (length (settled s x .id)) x) [
+  | done n e ↦ absurd (pair-none (x .id) n s a b)
+  | goes t c d e ↦
+      let k : length (settled t x .id) ≡ length (settled s x .id) = omega (arith, settled-shorter s x ok a b, settled-shorter t x ok c d) in
+      record { at = t; zero-in = c; one-in = d; same-end = rw (k, ← settled-shorter s x ok a b) (sym e) }
+]
 
 -- any step leads to the same end: it is the first one, or commutes with it
 settled-end : (k : ℕ) (s : Str) (x : Stamp) → length (x .id) ≤ k → Proper x → In (s ▹ false) (x .id) → In (s ▹ true) (x .id)
     → reduce (settled s x) ≡ reduce x
 settled-end zero s x h ok a b = absurd (omega (arith, settled-shorter s x ok a b))
-settled-end (suc k) s x h ok a b = by (decide (same s t)) (λ r y. settled-end k r y)
-  where
-    f : First x
-    f = first s x ok a b
-
-    t : Str
-    t = f .at
-
-    End : Type 0
-    End = (r : Str) (y : Stamp) → length (y .id) ≤ k → Proper y → In (r ▹ false) (y .id) → In (r ▹ true) (y .id) → reduce (settled r y) ≡ reduce y
-
-    by : (same s t ≡ true) ⊎ (same s t ≡ false) → End → reduce (settled s x) ≡ reduce x
-    by (inl e) ih = rw (same-is s t e) (f .same-end)
-    by (inr e) ih =
-        let p : s ≡ t → ⊥ = not-same e in
-        let q : t ≡ s → ⊥ = λ z. p (sym z) in
-        let c = f .zero-in in
-        let d = f .one-in in
-        sym (ih t (settled s x) (omega (arith, settled-shorter s x ok a b)) (settled-proper s x ok a b) (step-stays t s x false q c) (step-stays t s x true q d))
-        ∙ ap reduce (steps-commute t s x ok c d a b q)
-        ∙ ih s (settled t x) (omega (arith, settled-shorter t x ok c d)) (settled-proper t x ok c d) (step-stays s t x false p a) (step-stays s t x true p b)
-        ∙ f .same-end
+settled-end (suc k) s x h ok a b =
+    let f = first s x ok a b in
+    let t = f .at in
+    let c = f .zero-in in
+    let d = f .one-in in
+    let on : (r u : Str) (i : In (r ▹ false) (x .id)) (j : In (r ▹ true) (x .id)) → In (u ▹ false) (x .id) → In (u ▹ true) (x .id) → (u ≡ r → ⊥)
+    → reduce (settled u (settled r x)) ≡ reduce (settled r x) =
+    λ r u i j v w n. settled-end k u (settled r x) (omega (arith, settled-shorter r x ok i j)) (settled-proper r x ok i j)
+    (step-stays u r x false n v) (step-stays u r x true n w) in
+    elim (decide (same s t)) [
+      | inl e ↦ rw (same-is s t e) (f .same-end)
+      | inr e ↦
+          let q : t ≡ s → ⊥ = λ z. not-same e (sym z) in
+          sym (on s t a b c d q) ∙ ap reduce (steps-commute t s x ok c d a b q) ∙ on t s c d a b (not-same e) ∙ f .same-end
+    ]
 
 pub reduce-settled : (s : Str) (x : Stamp) → Proper x → In (s ▹ false) (x .id) → In (s ▹ true) (x .id) → reduce (settled s x) ≡ reduce x
 reduce-settled s x ok a b = settled-end (length (x .id)) s x (omega arith) ok a b

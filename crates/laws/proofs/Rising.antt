@@ -1,20 +1,15 @@
 -- Rising order: an order in which strings, none a prefix of another, have one listing. Assumes nothing.
-use Rattle.laws.proofs.Library.{_≡_, refl, sym, ap₂, _∙_, subst, Bool, true, false, List, [], _∷_, _⊎_, inl, inr, ⊎-elim}
-use Rattle.rules.specs.Strings.{Str, prefix, same, less}
+use Rattle.laws.proofs.Library.{_≡_, refl, sym, ap₂, _∙_, subst, true, false, List, [], _∷_, _++_, _⊎_, inl, inr, ⊎-elim}
+use Rattle.rules.specs.Strings.{Str, prefix, same, less, _▹_}
 use Rattle.rules.specs.Names.{Name, all, rising, insert, sorted}
 use Rattle.laws.proofs.Tests.{no, clash, decide, and-left, and-right, and-both, In, all-each, each-all}
-use Rattle.laws.proofs.Prefix.{prefix-refl, same-is, same-refl}
-
-no-less : (t : Str) → less t [] ≡ false
-unfolding less
-no-less [] = refl
-no-less (x ∷ t) = refl
+use Rattle.laws.proofs.Prefix.{prefix-refl, same-is, not-same}
 
 pub less-trans : (s t u : Str) → less s t ≡ true → less t u ≡ true → less s u ≡ true
 unfolding less
 less-trans [] t u p q = absurd (no p)
 less-trans (a ∷ s) [] u p q = absurd (no p)
-less-trans (a ∷ s) (b ∷ t) [] p q = absurd (clash q (no-less (b ∷ t)))
+less-trans (a ∷ s) (b ∷ t) [] p q = absurd (no q)
 less-trans (true ∷ s) (true ∷ t) (true ∷ u) p q = less-trans s t u p q
 less-trans (false ∷ s) (false ∷ t) (false ∷ u) p q = less-trans s t u p q
 less-trans (false ∷ s) (false ∷ t) (true ∷ u) p q = refl
@@ -46,6 +41,23 @@ less-total (false ∷ s) (false ∷ t) p q r = less-total s t p q r
 less-total (true ∷ s) (false ∷ t) p q r = refl
 less-total (false ∷ s) (true ∷ t) p q r = absurd (no (sym r))
 
+-- what follows makes no difference
+pub less-append : (s t x y : Str) → less s t ≡ true → less (s ++ x) (t ++ y) ≡ true
+unfolding less
+less-append [] t x y p = absurd (no p)
+less-append (a ∷ s) [] x y p = absurd (no p)
+less-append (true ∷ s) (true ∷ t) x y p = less-append s t x y p
+less-append (false ∷ s) (false ∷ t) x y p = less-append s t x y p
+less-append (false ∷ s) (true ∷ t) x y p = refl
+less-append (true ∷ s) (false ∷ t) x y p = absurd (no p)
+
+-- s0 comes before s1
+pub twins-less : (s : Str) → less (s ▹ false) (s ▹ true) ≡ true
+unfolding less
+twins-less [] = refl
+twins-less (true ∷ s) = twins-less s
+twins-less (false ∷ s) = twins-less s
+
 -- ---- rising lists
 
 module _ (s : Str) (n : Name) (h : rising (s ∷ n) ≡ true) where
@@ -61,14 +73,17 @@ pub rising-cons : (s : Str) (n : Name) → ((t : Str) → In t n → less s t �
 unfolding rising
 rising-cons s n f h = and-both (each-all (less s) n f) h
 
+-- a string before the first of rising ones is before them all
+pub rising-before : (s t : Str) (n : Name) → less s t ≡ true → rising (t ∷ n) ≡ true → rising (s ∷ t ∷ n) ≡ true
+rising-before s t n p h = rising-cons s (t ∷ n) (λ u i. ⊎-elim (λ k. rw k p) (λ k. less-trans s t u p (rising-head t n h u k)) i) h
+
 -- in a rising list none is a prefix of another
 pub rising-antichain : (n : Name) → rising n ≡ true → (s t : Str) → In s n → In t n → prefix s t ≡ true → s ≡ t
 rising-antichain [] h s t i j p = absurd i
-rising-antichain (u ∷ n) h s t i j p =
-    ⊎-elim
-    (λ a. ⊎-elim (λ b. a ∙ sym b) (λ b. absurd (clash p (less-apart s t (subst (λ (z : Str). less z t ≡ true) (sym a) (rising-head u n h t b)) .0))) j)
-    (λ a. ⊎-elim (λ b. absurd (clash p (less-apart t s (subst (λ (z : Str). less z s ≡ true) (sym b) (rising-head u n h s a)) .1))) (λ b. rising-antichain n (rising-tail u n h) s t a b p) j)
-    i
+rising-antichain (u ∷ n) h s t i j p = elim i [
+  | inl a ↦ ⊎-elim (λ b. a ∙ sym b) (λ b. absurd (clash p (less-apart s t (rw a (rising-head u n h t b)) .0))) j
+  | inr a ↦ ⊎-elim (λ b. absurd (clash p (less-apart t s (rw b (rising-head u n h s a)) .1))) (λ b. rising-antichain n (rising-tail u n h) s t a b p) j
+]
 
 -- the heads of two rising lists with the same strings
 rising-heads : (s t : Str) (m n : Name) → rising (s ∷ m) ≡ true → rising (t ∷ n) ≡ true → In s (t ∷ n) → In t (s ∷ m) → s ≡ t
@@ -99,32 +114,30 @@ pub data Place (s t : Str) (n : Name) : Type 0 where
 
 pub place : (s t : Str) (n : Name) → Place s t n
 unfolding insert
-place s t n = by (same s t) (less s t) refl refl
-  where
-    by : (a b : Bool) → same s t ≡ a → less s t ≡ b → Place s t n
-    by true b p q = here (same-is s t p) (simp p)
-    by false true p q = before q (simp (p, q))
-    by false false p q = after (λ e. clash (subst (λ (x : Str). same s x ≡ true) e (same-refl s)) p) q (simp (p, q))
+place s t n = elim (decide (same s t)) [
+  | inl p ↦ here (same-is s t p) (simp p)
+  | inr p ↦ elim (decide (less s t)) [ inl q ↦ before q (simp (p, q)) | inr q ↦ after (not-same p) q (simp (p, q)) ]
+]
 
 pub insert-in : (s : Str) (n : Name) (x : Str) → In x (insert s n) → (x ≡ s) ⊎ In x n
 unfolding insert
 insert-in s [] x i = i
-insert-in s (t ∷ n) x i = by (place s t n) (λ h. insert-in s n x h)
-  where
-    by : Place s t n → (In x (insert s n) → (x ≡ s) ⊎ In x n) → (x ≡ s) ⊎ In x (t ∷ n)
-    by (here p e) ih = inr (subst (In x) e i)
-    by (before p e) ih = subst (In x) e i
-    by (after d p e) ih = ⊎-elim (λ h. inr (inl h)) (λ h. ⊎-elim (λ k. inl k) (λ k. inr (inr k)) (ih h)) (subst (In x) e i)
+insert-in s (t ∷ n) x i = elim (place s t n) [
+  | here p e ↦ inr (subst (In x) e i)
+  | before p e ↦ subst (In x) e i
+  | after d p e ↦ ⊎-elim (λ h. inr (inl h)) (λ h. ⊎-elim (λ k. inl k) (λ k. inr (inr k)) (insert-in s n x h)) (subst (In x) e i)
+]
 
 pub in-insert : (s : Str) (n : Name) (x : Str) → (x ≡ s) ⊎ In x n → In x (insert s n)
 unfolding insert
 in-insert s [] x i = i
-in-insert s (t ∷ n) x i = by (place s t n) (λ h. in-insert s n x h)
-  where
-    by : Place s t n → ((x ≡ s) ⊎ In x n → In x (insert s n)) → In x (insert s (t ∷ n))
-    by (here p e) ih = subst (In x) (sym e) (⊎-elim (λ h. inl (h ∙ p)) (λ h. h) i)
-    by (before p e) ih = subst (In x) (sym e) i
-    by (after d p e) ih = subst (In x) (sym e) (⊎-elim (λ h. inr (ih (inl h))) (λ h. ⊎-elim (λ k. inl k) (λ k. inr (ih (inr k))) h) i)
+in-insert s (t ∷ n) x i = elim (place s t n) [
+  | here p e ↦ subst (In x) (sym e) (⊎-elim (λ h. inl (h ∙ p)) (λ h. h) i)
+  | before p e ↦ subst (In x) (sym e) i
+  | after d p e ↦
+      let on : (x ≡ s) ⊎ In x n → In x (insert s n) = in-insert s n x in
+      subst (In x) (sym e) (⊎-elim (λ h. inr (on (inl h))) (λ h. ⊎-elim (λ k. inl k) (λ k. inr (on (inr k))) h) i)
+]
 
 -- s is one of n, or apart from each of n
 abbrev pub Fits : Str → Name → Type 0
@@ -133,17 +146,16 @@ Fits s n = (t : Str) → In t n → (s ≡ t) ⊎ ((prefix s t ≡ false) × (pr
 pub insert-rising : (s : Str) (n : Name) → Fits s n → rising n ≡ true → rising (insert s n) ≡ true
 unfolding insert
 insert-rising s [] f h = rising-cons s [] (λ t i. absurd i) h
-insert-rising s (t ∷ n) f h = by (place s t n) (insert-rising s n (λ u i. f u (inr i)) (rising-tail t n h))
-  where
-    by : Place s t n → rising (insert s n) ≡ true → rising (insert s (t ∷ n)) ≡ true
-    by (here p e) ih = subst (λ (l : Name). rising l ≡ true) (sym e) h
-    by (before p e) ih =
-        subst (λ (l : Name). rising l ≡ true) (sym e)
-        (rising-cons s (t ∷ n) (λ u i. ⊎-elim (λ k. subst (λ (z : Str). less s z ≡ true) (sym k) p) (λ k. less-trans s t u p (rising-head t n h u k)) i) h)
-    by (after d p e) ih =
-        let l : less t s ≡ true = ⊎-elim (λ k. absurd (d k)) (λ k. less-total s t (k .0) (k .1) p) (f t (inl refl)) in
-        subst (λ (l : Name). rising l ≡ true) (sym e)
-        (rising-cons t (insert s n) (λ u i. ⊎-elim (λ k. subst (λ (z : Str). less t z ≡ true) (sym k) l) (λ k. rising-head t n h u k) (insert-in s n u i)) ih)
+insert-rising s (t ∷ n) f h = elim (place s t n) [
+  | here p e ↦ subst (λ (l : Name). rising l ≡ true) (sym e) h
+  | before p e ↦
+      subst (λ (l : Name). rising l ≡ true) (sym e) (rising-before s t n p h)
+  | after d p e ↦
+      let l : less t s ≡ true = ⊎-elim (λ k. absurd (d k)) (λ k. less-total s t (k .0) (k .1) p) (f t (inl refl)) in
+      subst (λ (l : Name). rising l ≡ true) (sym e)
+      (rising-cons t (insert s n) (λ u i. ⊎-elim (λ k. rw k l) (λ k. rising-head t n h u k) (insert-in s n u i))
+      (insert-rising s n (λ u i. f u (inr i)) (rising-tail t n h)))
+]
 
 -- ---- many strings put in their places
 
@@ -165,11 +177,9 @@ pub sorted-rising : (l : List Str) → Antichain l → rising (sorted l) ≡ tru
 unfolding sorted rising
 sorted-rising [] a = refl
 sorted-rising (s ∷ l) a =
-    insert-rising s (sorted l) (λ t i. by t (sorted-in l t i) (decide (prefix s t)) (decide (prefix t s)))
+    insert-rising s (sorted l)
+    (λ t i. elim (decide (prefix s t)) [
+      | inl p ↦ inl (a s t (inl refl) (inr (sorted-in l t i)) p)
+      | inr p ↦ elim (decide (prefix t s)) [ inl q ↦ inl (sym (a t s (inr (sorted-in l t i)) (inl refl) q)) | inr q ↦ inr (p, q) ]
+    ])
     (sorted-rising l (λ x y i j p. a x y (inr i) (inr j) p))
-  where
-    by : (t : Str) → In t l → (prefix s t ≡ true) ⊎ (prefix s t ≡ false) → (prefix t s ≡ true) ⊎ (prefix t s ≡ false)
-        → (s ≡ t) ⊎ ((prefix s t ≡ false) × (prefix t s ≡ false))
-    by t i (inl p) q = inl (a s t (inl refl) (inr i) p)
-    by t i (inr p) (inl q) = inl (sym (a t s (inr i) (inl refl) q))
-    by t i (inr p) (inr q) = inr (p, q)

@@ -1,10 +1,10 @@
 -- One step of reduction: what `settle` leaves in a name, and what `pair` finds. Assumes nothing.
-use Rattle.laws.proofs.Library.{_≡_, refl, sym, ap, _∙_, subst, Bool, true, false, cond, not, _&&_, _||_, List, [], _∷_, dropLast, _⊎_, inl, inr}
-use Rattle.laws.proofs.Library.{⊎-elim, Option, none, some, ℕ, arith}
+use Rattle.laws.proofs.Library.{_≡_, refl, sym, ap, _∙_, subst, Bool, true, false, not, _&&_, _||_, List, [], _∷_, dropLast, _⊎_, inl, inr, ⊎-elim}
+use Rattle.laws.proofs.Library.{Option, Option·none-ne-some, Option·some-injective, none, some}
 use Rattle.rules.specs.Strings.{Str, same, _▹_}
 use Rattle.rules.specs.Names.{Name, keep, member, insert}
 use Rattle.rules.specs.Stamps.{pairAmong, pair, settle}
-use Rattle.laws.proofs.Tests.{clash, and-left, and-right, and-both, or-cases, or-left, or-right, not-true, not-is, is-not, In, keep-in, in-keep}
+use Rattle.laws.proofs.Tests.{clash, and-left, and-right, and-both, or-cases, or-left, or-right, not-true, not-is, is-not, decide, In, keep-in, in-keep}
 use Rattle.laws.proofs.Prefix.{same-is, is-same}
 use Rattle.laws.proofs.Rising.{insert-in, in-insert}
 use Rattle.laws.proofs.Below.{member-in, in-member}
@@ -31,7 +31,9 @@ other-is s t e =
 
 is-other : (s t : Str) → Other s t → other s t ≡ true
 is-other s t o =
-    is-not (not-true (λ e. ⊎-elim (λ h. o .0 (sym (same-is (s ▹ false) t h))) (λ h. o .1 (sym (same-is (s ▹ true) t h))) (or-cases (same (s ▹ false) t) (same (s ▹ true) t) e)))
+    is-not
+    (not-true (λ e.
+    ⊎-elim (λ h. o .0 (sym (same-is (s ▹ false) t h))) (λ h. o .1 (sym (same-is (s ▹ true) t h))) (or-cases (same (s ▹ false) t) (same (s ▹ true) t) e)))
 
 -- the test that `settle` makes
 held-test : (s : Str) (n : Name) → (member (s ▹ false) n || member (s ▹ true) n) ≡ true → Held s n
@@ -47,35 +49,25 @@ pub data Way (s : Str) (n : Name) : Type 0 where
 
 pub way : (s : Str) (n : Name) → Way s n
 unfolding settle
-way s n = by (member (s ▹ false) n || member (s ▹ true) n) refl
-  where
-    by : (b : Bool) → (member (s ▹ false) n || member (s ▹ true) n) ≡ b → Way s n
-    by true e = holds (held-test s n e) (simp e)
-    by false e = lacks (λ h. clash (test-held s n h) e) (simp e)
+way s n = elim (decide (member (s ▹ false) n || member (s ▹ true) n)) [
+  | inl e ↦ holds (held-test s n e) (simp e)
+  | inr e ↦ lacks (λ h. clash (test-held s n h) e) (simp e)
+]
 
 pub settle-in : (s : Str) (n : Name) (x : Str) → In x (settle s n) → Left s n x
-settle-in s n x i = by (way s n)
-  where
-    by : Way s n → Left s n x
-    by (holds h e) =
-        ⊎-elim (λ p. inr (p, h)) (λ k. let q = keep-in (other s) n x k in inl (q .0, other-is s x (q .1))) (insert-in s (keep (other s) n) x (subst (In x) e i))
-    by (lacks h e) =
-        let j = subst (In x) e i in
-        inl (j, (λ p. h (inl (subst (λ (y : Str). In y n) p j)), λ p. h (inr (subst (λ (y : Str). In y n) p j))))
+settle-in s n x i = elim (way s n) [
+  | holds h e ↦
+      ⊎-elim (λ p. inr (p, h)) (λ k. let q = keep-in (other s) n x k in inl (q .0, other-is s x (q .1))) (insert-in s (keep (other s) n) x (rw e at i))
+  | lacks h e ↦ let j : In x n = rw e at i in inl (j, (λ p. h (inl (rw p at j)), λ p. h (inr (rw p at j))))
+]
 
 pub in-settle : (s : Str) (n : Name) (x : Str) → Left s n x → In x (settle s n)
-in-settle s n x l = by (way s n) l
-  where
-    by : Way s n → Left s n x → In x (settle s n)
-    by (holds h e) (inl k) = subst (In x) (sym e) (in-insert s (keep (other s) n) x (inr (in-keep (other s) n x (k .0) (is-other s x (k .1)))))
-    by (holds h e) (inr k) = subst (In x) (sym e) (in-insert s (keep (other s) n) x (inl (k .0)))
-    by (lacks h e) (inl k) = subst (In x) (sym e) (k .0)
-    by (lacks h e) (inr k) = absurd (h (k .1))
+in-settle s n x l = elim (way s n) [
+  | holds h e ↦ rw e (in-insert s (keep (other s) n) x (⊎-elim (λ k. inr (in-keep (other s) n x (k .0) (is-other s x (k .1)))) (λ k. inl (k .0)) l))
+  | lacks h e ↦ rw e (⊎-elim (λ k. k .0) (λ k. absurd (h (k .1))) l)
+]
 
 -- ---- pairs
-
-some-is : {s t : Str} → some s ≡ some t → s ≡ t
-some-is {s} {t} e = cc
 
 -- the last digit taken off again
 pub drop-grown : (s : Str) (d : Bool) → dropLast (s ▹ d) ≡ s
@@ -84,40 +76,44 @@ drop-grown (a ∷ []) d = refl
 drop-grown (a ∷ b ∷ s) d = ap (λ (l : Str). a ∷ l) (drop-grown (b ∷ s) d)
 
 module _ (n : Name) where
-  abbrev twins : Str → Bool
-  twins s = member (s ▹ false) n && member (s ▹ true) n
+  -- n holds s0 and s1
+  abbrev pub both : Str → Bool
+  both s = member (s ▹ false) n && member (s ▹ true) n
 
-  twins-in : (s : Str) → twins s ≡ true → In (s ▹ false) n × In (s ▹ true) n
-  twins-in s e =
-      (member-in (s ▹ false) n (and-left (member (s ▹ false) n) (member (s ▹ true) n) e), member-in (s ▹ true) n (and-right (member (s ▹ false) n) (member (s ▹ true) n) e))
+  pub both-in : (s : Str) → both s ≡ true → In (s ▹ false) n × In (s ▹ true) n
+  both-in s e = (
+    member-in (s ▹ false) n (and-left (member (s ▹ false) n) (member (s ▹ true) n) e),
+    member-in (s ▹ true) n (and-right (member (s ▹ false) n) (member (s ▹ true) n) e),
+  )
 
-  among-in : (l : List Str) (s : Str) → pairAmong l n ≡ some s → twins s ≡ true
+  pub in-both : (s : Str) → In (s ▹ false) n → In (s ▹ true) n → both s ≡ true
+  in-both s i j = and-both (in-member (s ▹ false) n i) (in-member (s ▹ true) n j)
+
+  among-in : (l : List Str) (s : Str) → pairAmong l n ≡ some s → both s ≡ true
   unfolding pairAmong
-  among-in [] s e = absurd (let z : _≡_ {A = ℕ} 0 1 = cc in omega arith)
-  among-in (t ∷ l) s e = by (twins (dropLast t)) refl e (λ h. among-in l s h)
-    where
-      by : (b : Bool) → twins (dropLast t) ≡ b → cond b (some (dropLast t)) (pairAmong l n) ≡ some s → (pairAmong l n ≡ some s → twins s ≡ true) → twins s ≡ true
-      by true p q ih = subst (λ (x : Str). twins x ≡ true) (some-is q) p
-      by false p q ih = ih q
+  among-in [] s e = absurd (Option·none-ne-some s e)
+  among-in (t ∷ l) s e = elim (decide (both (dropLast t))) [
+    | inl p ↦ rw (Option·some-injective (dropLast t) s (rw p at e)) at p
+    | inr p ↦ among-in l s (rw p at e)
+  ]
 
-  among-none : (l : List Str) (s : Str) → pairAmong l n ≡ none → In (s ▹ false) l → twins s ≡ true → ⊥
+  among-none : (l : List Str) (s : Str) → pairAmong l n ≡ none → In (s ▹ false) l → both s ≡ true → ⊥
   unfolding pairAmong
   among-none [] s e i h = i
-  among-none (t ∷ l) s e i h = by (twins (dropLast t)) refl e (λ q k. among-none l s q k h)
-    where
-      by : (b : Bool) → twins (dropLast t) ≡ b → cond b (some (dropLast t)) (pairAmong l n) ≡ none → (pairAmong l n ≡ none → In (s ▹ false) l → ⊥) → ⊥
-      by true p q ih = let z : _≡_ {A = ℕ} 0 1 = cc in omega arith
-      by false p q ih = ⊎-elim (λ k. clash (subst (λ (x : Str). twins x ≡ true) (sym (drop-grown s false) ∙ ap dropLast k) h) p) (λ k. ih q k) i
+  among-none (t ∷ l) s e i h = elim (decide (both (dropLast t))) [
+    | inl p ↦ Option·none-ne-some (dropLast t) (sym (rw p at e))
+    | inr p ↦ ⊎-elim (λ k. clash (subst (λ (x : Str). both x ≡ true) (sym (drop-grown s false) ∙ ap dropLast k) h) p) (λ k. among-none l s (rw p at e) k h) i
+  ]
 
   -- what is found is there
   pub pair-in : (s : Str) → pair n ≡ some s → In (s ▹ false) n × In (s ▹ true) n
   unfolding pair
-  pair-in s e = twins-in s (among-in n s e)
+  pair-in s e = both-in s (among-in n s e)
 
   -- where nothing is found there is none
   pub pair-none : pair n ≡ none → (s : Str) → In (s ▹ false) n → In (s ▹ true) n → ⊥
   unfolding pair
-  pair-none e s i j = among-none n s e i (and-both (in-member (s ▹ false) n i) (in-member (s ▹ true) n j))
+  pair-none e s i j = among-none n s e i (in-both s i j)
 
   -- and the other way round
   pub none-pair : ((s : Str) → In (s ▹ false) n → In (s ▹ true) n → ⊥) → pair n ≡ none

@@ -1,7 +1,7 @@
 -- The share of a string is halved by one digit more. So a fork splits a name's share in two halves, a step of reduction leaves it
 -- as it is, and the shares of names that are apart add up in their union. Assumes nothing.
-use Rattle.laws.proofs.Library.{_≡_, refl, ap, _∙_, Bool, true, false, [], _∷_, _++_, _⊎_, inl, inr, ⊎-elim, ℕ, suc, _+_, _-_, _≤_, _<_, pow-suc}
-use Rattle.laws.proofs.Library.{arith, length, length-append}
+use Rattle.laws.proofs.Library.{_≡_, refl, ap, _∙_, Bool, true, false, [], _∷_, _++_, inl, inr, ⊎-elim, ℕ, suc, _+_, _-_, _≤_, _<_, pow-suc, arith}
+use Rattle.laws.proofs.Library.{length, length-append}
 use Rattle.rules.specs.Strings.{Str, prefix, _▹_, share}
 use Rattle.rules.specs.Names.{Name, rising, union}
 use Rattle.rules.specs.Stamps.{Stamp, settle, settled, reduce, append, sumShares}
@@ -67,13 +67,10 @@ Apart m n = (s t : Str) → In s m → In t n → (prefix s t ≡ false) × (pre
 
 module _ (m n : Name) (m-rising : rising m ≡ true) (n-rising : rising n ≡ true) (apart : Apart m n) where
   both-antichain : (s t : Str) → In s (m ++ n) → In t (m ++ n) → prefix s t ≡ true → s ≡ t
-  both-antichain s t i j p = by (in-append s m n i) (in-append t m n j)
-    where
-      by : In s m ⊎ In s n → In t m ⊎ In t n → s ≡ t
-      by (inl a) (inl b) = rising-antichain m m-rising s t a b p
-      by (inl a) (inr b) = absurd (clash p (apart s t a b .0))
-      by (inr a) (inl b) = absurd (clash p (apart t s b a .1))
-      by (inr a) (inr b) = rising-antichain n n-rising s t a b p
+  both-antichain s t i j p = elim (in-append s m n i) [
+    | inl a ↦ ⊎-elim (λ b. rising-antichain m m-rising s t a b p) (λ b. absurd (clash p (apart s t a b .0))) (in-append t m n j)
+    | inr a ↦ ⊎-elim (λ b. absurd (clash p (apart t s b a .1))) (λ b. rising-antichain n n-rising s t a b p) (in-append t m n j)
+  ]
 
   -- the union keeps all strings of both
   pub in-union : (s : Str) → In s (m ++ n) → In s (union m n)

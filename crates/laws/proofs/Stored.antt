@@ -1,7 +1,7 @@
 -- The stored shape: a record that has it tells its stamp, each lawful stamp has one, and none of them is all zeros.
 -- A word tells its string, and a record is the same as another when its numbers are. Assumes nothing.
-use Rattle.laws.proofs.Library.{_≡_, refl, sym, ap, ap₂, _∙_, subst, Bool, true, false, not, List, [], _∷_, map, inl, inr, ℕ, _-_, _≤_, arith}
-use Rattle.laws.proofs.Library.{eqb-true, eq-eqb, eqb, length, replicate, length-map, take-at}
+use Rattle.laws.proofs.Library.{_≡_, refl, ap, ap₂, _∙_, true, false, not, List, [], _∷_, map, inl, inr, ℕ, _-_, _≤_, arith, eqb-true, eq-eqb, eqb}
+use Rattle.laws.proofs.Library.{length, replicate, length-map, take-at}
 use Rattle.rules.specs.Limits.{Limits}
 use Rattle.rules.specs.Strings.{Str, wordOf, strOf}
 use Rattle.rules.specs.Names.{Name, isName}
@@ -9,9 +9,9 @@ use Rattle.rules.specs.Stamps.{Stamp, lawful}
 use Rattle.rules.specs.Stored.{wordsOf, stored, strsIn, held, sameNumbers, sameWords, sameRecord, isStoredName, isStored, unlawful, blank, absent}
 use Rattle.rules.specs.declared.Words.{Words}
 use Rattle.rules.specs.declared.Record.{Record}
-use Rattle.laws.proofs.Tests.{no, not-true, and-left, and-right, and-both, In}
+use Rattle.laws.proofs.Tests.{no, clash, is-not, not-false, not-true, and-left, and-right, and-both, In}
 use Rattle.laws.proofs.Words.{str-word}
-use Rattle.laws.proofs.Lawful.{Short, name-parts, lawful-parts}
+use Rattle.laws.proofs.Lawful.{Short, lawful-parts}
 
 -- ---- records are the same when their numbers are
 
@@ -75,10 +75,7 @@ module _ (L : Limits) (room : L .digits ≤ 58) where
 
   pub is-stored : (x : Stamp) → lawful L x ≡ true → isStored L (stored L x) ≡ true
   unfolding isStored
-  is-stored x h =
-      let e = held-stored x h in
-      and-both (subst (λ (y : Stamp). lawful L y ≡ true) (sym e) h)
-      (subst (λ (y : Stamp). sameRecord (stored L x) (stored L y) ≡ true) (sym e) (records-refl (stored L x)))
+  is-stored x h = rw (held-stored x h) (and-both h (records-refl (stored L x)))
 
 module _ (L : Limits) (w : Words) (h : isStoredName L w ≡ true) where
   pub stored-name : isName L (strsIn w) ≡ true
@@ -102,11 +99,7 @@ module _ (L : Limits) (r : Record) (h : isStored L r ≡ true) where
 
 pub lawful-stored : (L : Limits) (r : Record) → unlawful L r ≡ false → isStored L r ≡ true
 unfolding unlawful
-lawful-stored L r e = by (isStored L r) e
-  where
-    by : (b : Bool) → not b ≡ false → b ≡ true
-    by true e = refl
-    by false e = absurd (no (sym e))
+lawful-stored L r e = not-false (λ p. clash (is-not p) e)
 
 pub stored-not-unlawful : (L : Limits) (r : Record) → isStored L r ≡ true → unlawful L r ≡ false
 unfolding unlawful

@@ -1,9 +1,9 @@
 -- The sum of a weight over a name's strings. Two names that share all but a few strings differ by the weights of those few,
 -- since a rising list is told by its strings. Assumes nothing.
-use Rattle.laws.proofs.Library.{_≡_, refl, ap, Bool, true, false, cond, not, [], _∷_, ℕ, _+_, arith, length}
+use Rattle.laws.proofs.Library.{_≡_, refl, ap, Bool, true, not, [], _∷_, inl, inr, ℕ, _+_, arith, length}
 use Rattle.rules.specs.Strings.{Str}
 use Rattle.rules.specs.Names.{Name, keep, member, rising}
-use Rattle.laws.proofs.Tests.{clash, not-true, not-is, is-not, In, keep-in, in-keep}
+use Rattle.laws.proofs.Tests.{clash, decide, not-true, not-is, is-not, In, keep-in, in-keep}
 use Rattle.laws.proofs.Rising.{rising-head, rising-tail, rising-cons, rising-unique}
 use Rattle.laws.proofs.Below.{member-in, in-member}
 
@@ -22,22 +22,15 @@ length-total (s ∷ n) = omega (arith, length-total n)
 pub keep-rising : (p : Str → Bool) (n : Name) → rising n ≡ true → rising (keep p n) ≡ true
 unfolding keep
 keep-rising p [] h = h
-keep-rising p (s ∷ n) h = by (p s) (keep-rising p n (rising-tail s n h))
-  where
-    by : (b : Bool) → rising (keep p n) ≡ true → rising (cond b (s ∷ keep p n) (keep p n)) ≡ true
-    by true ih = rising-cons s (keep p n) (λ t i. rising-head s n h t (keep-in p n t i .0)) ih
-    by false ih = ih
+keep-rising p (s ∷ n) h =
+    let on = keep-rising p n (rising-tail s n h) in
+    elim (decide (p s)) [ inl e ↦ rw e (rising-cons s (keep p n) (λ t i. rising-head s n h t (keep-in p n t i .0)) on) | inr e ↦ rw e on ]
 
 -- what passes and what does not make up the whole
 pub total-keep : (f : Str → ℕ) (p : Str → Bool) (n : Name) → total f (keep p n) + total f (keep (λ s. not (p s)) n) ≡ total f n
 unfolding total keep
 total-keep f p [] = refl
-total-keep f p (s ∷ n) = by (p s) (total-keep f p n)
-  where
-    by : (b : Bool) → total f (keep p n) + total f (keep (λ t. not (p t)) n) ≡ total f n
-        → total f (cond b (s ∷ keep p n) (keep p n)) + total f (cond (not b) (s ∷ keep (λ t. not (p t)) n) (keep (λ t. not (p t)) n)) ≡ f s + total f n
-    by true ih = omega arith
-    by false ih = omega arith
+total-keep f p (s ∷ n) = elim (decide (p s)) [ inl e ↦ rw e (omega (arith, total-keep f p n)) | inr e ↦ rw e (omega (arith, total-keep f p n)) ]
 
 -- ---- two names
 

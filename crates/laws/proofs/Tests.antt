@@ -1,6 +1,6 @@
 -- Tests and what they say: `any`, `all`, `keep` and `member` as statements about the elements. Assumes nothing.
-use Rattle.laws.proofs.Library.{_≡_, refl, sym, _∙_, subst, Bool, true, false, cond, not, _&&_, _||_, List, [], _∷_, _++_, _⊎_, inl, inr, ⊎-elim, ℕ}
-use Rattle.laws.proofs.Library.{arith}
+use Rattle.laws.proofs.Library.{_≡_, refl, sym, _∙_, subst, Bool, true, false, not, _&&_, _||_, or-true, List, [], _∷_, _++_, _⊎_, inl, inr, ⊎-elim, ℕ}
+use Rattle.laws.proofs.Library.{_≤_, _<_, arith, length, leb, leb-true, leb-false}
 use Rattle.rules.specs.Names.{any, all, keep}
 
 pub no : false ≡ true → ⊥
@@ -14,35 +14,20 @@ decide true = inl refl
 decide false = inr refl
 
 pub not-true : {b : Bool} → (b ≡ true → ⊥) → b ≡ false
-not-true {b} h = by b h
-  where
-    by : (b : Bool) → (b ≡ true → ⊥) → b ≡ false
-    by true h = absurd (h refl)
-    by false h = refl
+not-true {b} h = elim (decide b) [ inl e ↦ absurd (h e) | inr e ↦ e ]
 
 pub not-false : {b : Bool} → (b ≡ false → ⊥) → b ≡ true
-not-false {b} h = by b h
-  where
-    by : (b : Bool) → (b ≡ false → ⊥) → b ≡ true
-    by true h = refl
-    by false h = absurd (h refl)
+not-false {b} h = elim (decide b) [ inl e ↦ e | inr e ↦ absurd (h e) ]
 
 -- two tests that imply each other are one
 pub iff : {a b : Bool} → (a ≡ true → b ≡ true) → (b ≡ true → a ≡ true) → a ≡ b
-iff {a} {b} f g = by a b f g
-  where
-    by : (a b : Bool) → (a ≡ true → b ≡ true) → (b ≡ true → a ≡ true) → a ≡ b
-    by true b f g = sym (f refl)
-    by false true f g = g refl
-    by false false f g = refl
+iff {a} f g = elim (decide a) [ inl e ↦ e ∙ sym (f e) | inr e ↦ e ∙ sym (not-true (λ k. clash (g k) e)) ]
 
 pub and-left : (a b : Bool) → (a && b) ≡ true → a ≡ true
-and-left true b e = refl
-and-left false b e = absurd (no e)
+and-left a b e = not-false (λ p. clash e (rw p))
 
 pub and-right : (a b : Bool) → (a && b) ≡ true → b ≡ true
-and-right true b e = e
-and-right false b e = absurd (no e)
+and-right a b e = rw (and-left a b e) at e
 
 pub and-both : {a b : Bool} → a ≡ true → b ≡ true → (a && b) ≡ true
 and-both p q = rw (p, q)
@@ -55,18 +40,17 @@ pub or-left : {a : Bool} (b : Bool) → a ≡ true → (a || b) ≡ true
 or-left b p = rw p
 
 pub or-right : (a : Bool) {b : Bool} → b ≡ true → (a || b) ≡ true
-or-right true q = refl
-or-right false q = q
+or-right a q = rw (q, or-true)
 
 pub not-is : {b : Bool} → not b ≡ true → b ≡ false
-not-is {b} e = by b e
-  where
-    by : (b : Bool) → not b ≡ true → b ≡ false
-    by true e = absurd (no e)
-    by false e = refl
+not-is e = not-true (λ p. no (rw p at e))
 
 pub is-not : {b : Bool} → b ≡ false → not b ≡ true
 is-not p = rw p
+
+-- one number is at most another, or beyond it
+pub at-most : (m n : ℕ) → (m ≤ n) ⊎ (n < m)
+at-most m n = elim (decide (leb m n)) [ inl e ↦ inl (leb-true m n e) | inr e ↦ inr (leb-false m n e) ]
 
 -- ---- elements
 
@@ -87,6 +71,11 @@ module _ {A : Type 0} where
   pub in-append : (x : A) (l m : List A) → In x (l ++ m) → In x l ⊎ In x m
   in-append x [] m i = inr i
   in-append x (y ∷ l) m i = ⊎-elim (λ h. inl (inl h)) (λ h. ⊎-elim (λ k. inl (inr k)) (λ k. inr k) (in-append x l m h)) i
+
+  -- a list with an element is not empty
+  pub in-filled : (x : A) (l : List A) → In x l → 1 ≤ length l
+  in-filled x [] i = absurd i
+  in-filled x (y ∷ l) i = omega arith
 
   -- some element passes p
   pub record Some (p : A → Bool) (l : List A) : Type 0 where
@@ -128,17 +117,14 @@ module _ {A : Type 0} where
   pub keep-in : (p : A → Bool) (l : List A) (x : A) → In x (keep p l) → In x l × (p x ≡ true)
   unfolding keep
   keep-in p [] x i = absurd i
-  keep-in p (y ∷ l) x i = by (p y) refl i (λ h. keep-in p l x h)
-    where
-      by : (b : Bool) → p y ≡ b → In x (cond b (y ∷ keep p l) (keep p l)) → (In x (keep p l) → In x l × (p x ≡ true)) → In x (y ∷ l) × (p x ≡ true)
-      by true e i ih = ⊎-elim (λ h. (inl h, subst (λ (z : A). p z ≡ true) (sym h) e)) (λ h. (inr (ih h .0), ih h .1)) i
-      by false e i ih = (inr (ih i .0), ih i .1)
+  keep-in p (y ∷ l) x i =
+      let on : In x (keep p l) → In x (y ∷ l) × (p x ≡ true) = λ h. let k = keep-in p l x h in (inr (k .0), k .1) in
+      elim (decide (p y)) [ inl e ↦ ⊎-elim (λ h. (inl h, rw h e)) on (let j : In x (y ∷ keep p l) = rw e at i in j) | inr e ↦ on (rw e at i) ]
 
   pub in-keep : (p : A → Bool) (l : List A) (x : A) → In x l → p x ≡ true → In x (keep p l)
   unfolding keep
   in-keep p [] x i e = absurd i
-  in-keep p (y ∷ l) x i e = by (p y) refl i (λ h. in-keep p l x h e)
-    where
-      by : (b : Bool) → p y ≡ b → In x (y ∷ l) → (In x l → In x (keep p l)) → In x (cond b (y ∷ keep p l) (keep p l))
-      by true f i ih = ⊎-elim (λ h. inl h) (λ h. inr (ih h)) i
-      by false f i ih = ⊎-elim (λ h. absurd (clash (subst (λ (z : A). p z ≡ true) h e) f)) (λ h. ih h) i
+  in-keep p (y ∷ l) x i e = elim (decide (p y)) [
+    | inl f ↦ rw f (⊎-elim (λ h. inl h) (λ h. inr (in-keep p l x h e)) i)
+    | inr f ↦ rw f (⊎-elim (λ h. absurd (clash (rw h at e) f)) (λ h. in-keep p l x h e) i)
+  ]

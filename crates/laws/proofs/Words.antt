@@ -1,32 +1,23 @@
 -- Words that hold strings: the leading zeros of an exclusive-or are the leading digits shared, words stand in the order of their strings,
 -- and a word tells its string. What is said of any width goes from the highest digit down, by induction. Assumes nothing.
-use Rattle.laws.proofs.Library.{_≡_, refl, sym, ap, ap₂, _∙_, Bool, true, false, cond, _&&_, Bool·beq, List, [], _∷_, _++_, ℕ, zero, suc, _+_, _*_}
-use Rattle.laws.proofs.Library.{_-_, _/_, _%_, _^_, _≤_, _<_, min, mod-lt, pow-suc, le-of-suc-le-suc, not-suc-le-zero, div-lt-iff-lt-mul}
-use Rattle.laws.proofs.Library.{mod-eq-of-lt, mul-assoc, mul-comm, add-mul, mul-le-mul-right, mul-mod-left, le-mul-of-pos-right, arith, ltb-true}
-use Rattle.laws.proofs.Library.{ltb-false, lt-ltb, le-ltb, leb-true, eqb-true, eq-eqb, eqb, leb, ltb, leb·zero, leb·suc-zero, leb·suc-suc, length}
-use Rattle.laws.proofs.Library.{take, replicate, length-append, length-replicate, split, pow-pos, pow-add, pow-mono, shr-shr, shl-shr, high, low}
+use Rattle.laws.proofs.Library.{_≡_, refl, sym, ap, ap₂, _∙_, Bool, true, false, cond, _&&_, Bool·beq, List, [], _∷_, _++_, inl, inr, and-false, ℕ}
+use Rattle.laws.proofs.Library.{zero, suc, _+_, _*_, _-_, _/_, _%_, _^_, _≤_, _<_, min, mod-lt, pow-suc, le-of-suc-le-suc, not-suc-le-zero}
+use Rattle.laws.proofs.Library.{div-lt-iff-lt-mul, mod-eq-of-lt, add-mul, mul-le-mul-right, mul-mod-left, le-mul-of-pos-right, arith, ltb-true, lt-ltb}
+use Rattle.laws.proofs.Library.{le-ltb, leb-true, eqb-true, eq-eqb, eqb, leb, ltb, leb·zero, leb·suc-zero, leb·suc-suc, length, take, take-append-drop}
+use Rattle.laws.proofs.Library.{drop, replicate, length-append, length-replicate, split, pow-pos, pow-add, pow-mono, shr-shr, shl-shr, high, low}
 use Rattle.laws.proofs.Library.{mod-pow-add, take-at, length-take-le}
 use lib.Bits.{bitXor, xor-block, xor-lt}
 use lib.Count.{leadingZeros, leading-length, leading-unique}
-use Rattle.rules.specs.Strings.{Str, prefix, less, common, siblings, _▹_, digit, field, value, aligned, wordOf, strOf, isWord}
-use Rattle.laws.proofs.Tests.{no, clash, not-true, iff}
-use Rattle.laws.proofs.Rising.{less-apart}
-use Rattle.laws.proofs.Bits.{field-length, value-lt, value-snoc, value-append, value-shift, value-field, field-value, value-zeros}
+use Rattle.rules.specs.Strings.{Str, prefix, less, common, siblings, _▹_, digit, field, valueFrom, value, aligned, wordOf, strOf, isWord}
+use Rattle.laws.proofs.Tests.{decide, iff, not-false}
+use Rattle.laws.proofs.Rising.{less-append, less-irrefl, less-total, less-trans}
+use Rattle.laws.proofs.Bits.{field-length, value-lt, value-snoc, value-append, value-shift, value-field, value-field-exact, field-value, value-zeros}
 
 -- ---- fields
 
 -- higher bits make no difference
 pub field-low : (k a : ℕ) → field k (a % 2 ^ k) ≡ field k a
 field-low k a = ap₂ (λ (n v : ℕ). field n v) (sym (field-length k a)) (sym (value-field k a)) ∙ field-value (field k a)
-
-top-lt : (k a : ℕ) → a < 2 ^ suc k → a / 2 ^ k < 2
-top-lt k a h = div-lt-iff-lt-mul (pow-pos k) .1 (omega (arith, pow-suc 2 k))
-
--- the highest digit, and the field of the rest
-field-parts : (k a : ℕ) → a < 2 ^ suc k → field (suc k) a ≡ eqb (a / 2 ^ k) 1 ∷ field k (a % 2 ^ k)
-unfolding field
-field-parts k a h =
-    ap₂ (λ (n : ℕ) (l : List Bool). eqb n 1 ∷ l) (mod-eq-of-lt (top-lt k a h)) (sym (field-low k a))
 
 pub field-split : (j k a : ℕ) → field (j + k) a ≡ field j (a / 2 ^ k) ++ field k a
 unfolding field
@@ -54,36 +45,40 @@ zeros-high : (k v : ℕ) → v < 2 ^ k → leadingZeros (suc k) (1 * 2 ^ k + v) 
 zeros-high k v h =
     sym (leading-unique (suc k) (1 * 2 ^ k + v) zero (suc k) (omega arith) (omega (arith, pow-suc 2 k)) (omega (arith, pow-suc 2 k)))
 
-lead-step : (k x r y s : ℕ) → x < 2 → y < 2 → r < 2 ^ k → s < 2 ^ k
-    → leadingZeros (suc k) (bitXor (x * 2 ^ k + r) (y * 2 ^ k + s)) ≡ cond (Bool·beq (eqb x 1) (eqb y 1)) (suc (leadingZeros k (bitXor r s))) zero
-lead-step k zero r zero s hx hy hr hs =
-    ap (leadingZeros (suc k)) (xor-block k 0 0 r s hr hs) ∙ zeros-low k (bitXor r s) (xor-lt k r s hr hs)
-lead-step k zero r (suc zero) s hx hy hr hs =
-    ap (leadingZeros (suc k)) (xor-block k 0 1 r s hr hs) ∙ zeros-high k (bitXor r s) (xor-lt k r s hr hs)
-lead-step k (suc zero) r zero s hx hy hr hs =
-    ap (leadingZeros (suc k)) (xor-block k 1 0 r s hr hs) ∙ zeros-high k (bitXor r s) (xor-lt k r s hr hs)
-lead-step k (suc zero) r (suc zero) s hx hy hr hs =
-    ap (leadingZeros (suc k)) (xor-block k 1 1 r s hr hs) ∙ zeros-low k (bitXor r s) (xor-lt k r s hr hs)
-lead-step k zero r (suc (suc y)) s hx hy hr hs = absurd (omega arith)
-lead-step k (suc zero) r (suc (suc y)) s hx hy hr hs = absurd (omega arith)
-lead-step k (suc (suc x)) r y s hx hy hr hs = absurd (omega arith)
+-- a digit in front, of bits as many as t
+front : (a : Bool) (s t : List Bool) → length s ≡ length t → value (a ∷ s) ≡ digit a * 2 ^ length t + value s
+unfolding valueFrom
+front true s t e = value-shift 1 s ∙ ap (λ (n : ℕ). 1 * 2 ^ n + value s) e
+front false s t e = omega arith
 
--- the leading zeros of an exclusive-or are the leading digits shared, at every width
+lead-step : (a b : Bool) (k v : ℕ) → v < 2 ^ k
+    → leadingZeros (suc k) (bitXor (digit a) (digit b) * 2 ^ k + v) ≡ cond (Bool·beq a b) (suc (leadingZeros k v)) zero
+lead-step true true k v h = zeros-low k v h
+lead-step false false k v h = zeros-low k v h
+lead-step true false k v h = zeros-high k v h
+lead-step false true k v h = zeros-high k v h
+
+-- the leading zeros of an exclusive-or are the leading digits shared
+lead-value : (s t : List Bool) → length s ≡ length t → leadingZeros (length s) (bitXor (value s) (value t)) ≡ common s t
+unfolding leadingZeros common
+lead-value [] [] e = refl
+lead-value [] (b ∷ t) e = absurd (omega arith)
+lead-value (a ∷ s) [] e = absurd (omega arith)
+lead-value (a ∷ s) (b ∷ t) e =
+    let k = length s in
+    let l : k ≡ length t = omega arith in
+    let small : value t < 2 ^ k = rw l (value-lt t) in
+    ap (leadingZeros (suc k)) (ap₂ bitXor (front a s s refl) (front b t s (sym l)) ∙ xor-block k (digit a) (digit b) (value s) (value t) (value-lt s) small)
+    ∙ lead-step a b k (bitXor (value s) (value t)) (xor-lt k (value s) (value t) (value-lt s) small)
+    ∙ ap (λ (n : ℕ). cond (Bool·beq a b) (suc n) zero) (lead-value s t l)
+
+-- at every width
 pub lead : (k a b : ℕ) → a < 2 ^ k → b < 2 ^ k → leadingZeros k (bitXor a b) ≡ common (field k a) (field k b)
-unfolding leadingZeros common field
-lead zero a b ha hb = refl
-lead (suc k) a b ha hb =
-    ap₂ (λ (x y : ℕ). leadingZeros (suc k) (bitXor x y)) (sym (split a k)) (sym (split b k))
-    ∙ lead-step k (a / 2 ^ k) (a % 2 ^ k) (b / 2 ^ k) (b % 2 ^ k) (top-lt k a ha) (top-lt k b hb) (mod-lt a (pow-pos k)) (mod-lt b (pow-pos k))
-    ∙ ap (λ (n : ℕ). cond (Bool·beq (eqb (a / 2 ^ k) 1) (eqb (b / 2 ^ k) 1)) (suc n) zero)
-    (lead k (a % 2 ^ k) (b % 2 ^ k) (mod-lt a (pow-pos k)) (mod-lt b (pow-pos k)))
-    ∙ sym (ap₂ common (field-parts k a ha) (field-parts k b hb))
+lead k a b ha hb =
+    ap₂ leadingZeros (sym (field-length k a)) (sym (ap₂ bitXor (value-field-exact k a ha) (value-field-exact k b hb)))
+    ∙ lead-value (field k a) (field k b) (field-length k a ∙ sym (field-length k b))
 
 -- ---- prefix
-
-and-none : (e : Bool) → (e && false) ≡ false
-and-none true = refl
-and-none false = refl
 
 -- a first part is a prefix of a first part exactly when it is no longer than that, nor than what the two share
 pub prefix-take : (m n : ℕ) (s t : Str) → m ≤ length s → n ≤ length t → prefix (take m s) (take n t) ≡ (leb m n && leb m (common s t))
@@ -92,13 +87,10 @@ prefix-take zero n s t hm hn = simp leb·zero
 prefix-take (suc m) n [] t hm hn = absurd (not-suc-le-zero hm)
 prefix-take (suc m) zero (a ∷ s) t hm hn = simp leb·suc-zero
 prefix-take (suc m) (suc n) (a ∷ s) [] hm hn = absurd (not-suc-le-zero hn)
-prefix-take (suc m) (suc n) (a ∷ s) (b ∷ t) hm hn =
-    step (Bool·beq a b) (prefix-take m n s t (le-of-suc-le-suc hm) (le-of-suc-le-suc hn))
-  where
-    step : (e : Bool) → prefix (take m s) (take n t) ≡ (leb m n && leb m (common s t))
-        → (e && prefix (take m s) (take n t)) ≡ (leb (suc m) (suc n) && leb (suc m) (cond e (suc (common s t)) zero))
-    step true ih = simp leb·suc-suc ih
-    step false ih = simp (leb·suc-zero, and-none)
+prefix-take (suc m) (suc n) (a ∷ s) (b ∷ t) hm hn = elim (decide (Bool·beq a b)) [
+  | inl e ↦ simp (e, leb·suc-suc) (prefix-take m n s t (le-of-suc-le-suc hm) (le-of-suc-le-suc hn))
+  | inr e ↦ simp (e, leb·suc-zero, and-false)
+]
 
 -- the same for what a caller has in hand: z is what the two words share
 pub prefix-words : (a b z : ℕ) → z ≡ common (field 64 a) (field 64 b) → (leb (a % 64) (b % 64) && leb (a % 64) z) ≡ prefix (strOf a) (strOf b)
@@ -112,11 +104,7 @@ pub common-le : (s t : Str) → common s t ≤ length s
 unfolding common
 common-le [] t = omega arith
 common-le (a ∷ s) [] = omega arith
-common-le (a ∷ s) (b ∷ t) = step (Bool·beq a b) (common-le s t)
-  where
-    step : (e : Bool) → common s t ≤ length s → cond e (suc (common s t)) zero ≤ suc (length s)
-    step true ih = omega arith
-    step false ih = omega arith
+common-le (a ∷ s) (b ∷ t) = elim (decide (Bool·beq a b)) [ inl e ↦ rw e (omega (arith, common-le s t)) | inr e ↦ rw e (omega arith) ]
 
 -- first parts of one length share what the wholes share, up to that length
 common-take : (m : ℕ) (s t : Str) → common (take m s) (take m t) ≡ min m (common s t)
@@ -124,12 +112,7 @@ unfolding common
 common-take zero s t = omega arith
 common-take (suc m) [] t = omega arith
 common-take (suc m) (a ∷ s) [] = omega arith
-common-take (suc m) (a ∷ s) (b ∷ t) = step (Bool·beq a b) (common-take m s t)
-  where
-    step : (e : Bool) → common (take m s) (take m t) ≡ min m (common s t)
-        → cond e (suc (common (take m s) (take m t))) zero ≡ min (suc m) (cond e (suc (common s t)) zero)
-    step true ih = omega arith
-    step false ih = omega arith
+common-take (suc m) (a ∷ s) (b ∷ t) = elim (decide (Bool·beq a b)) [ inl e ↦ rw e (omega (arith, common-take m s t)) | inr e ↦ rw e (omega arith) ]
 
 but-one : (m k : ℕ) → eqb (suc (min m k)) m ≡ eqb (k + 1) m
 but-one m k =
@@ -138,14 +121,12 @@ but-one m k =
 -- first parts are siblings exactly when they are of one length and the wholes share all of it but one digit
 pub siblings-take : (m n : ℕ) (s t : Str) → m ≤ length s → n ≤ length t → siblings (take m s) (take n t) ≡ (eqb m n && eqb (common s t + 1) m)
 unfolding siblings
-siblings-take m n s t hm hn = by (eqb m n) refl
-  where
-    by : (b : Bool) → eqb m n ≡ b
-        → (eqb (length (take m s)) (length (take n t)) && eqb (suc (common (take m s) (take n t))) (length (take m s))) ≡ (eqb m n && eqb (common s t + 1) m)
-    by true e =
-        let c : common (take m s) (take n t) ≡ min m (common s t) = ap (λ (k : ℕ). common (take m s) (take k t)) (sym (eqb-true m n e)) ∙ common-take m s t in
-        simp (length-take-le m s hm, length-take-le n t hn, e, c) (but-one m (common s t))
-    by false e = simp (length-take-le m s hm, length-take-le n t hn, e)
+siblings-take m n s t hm hn = elim (decide (eqb m n)) [
+  | inl e ↦
+      let c : common (take m s) (take n t) ≡ min m (common s t) = ap (λ (k : ℕ). common (take m s) (take k t)) (sym (eqb-true m n e)) ∙ common-take m s t in
+      simp (length-take-le m s hm, length-take-le n t hn, e, c) (but-one m (common s t))
+  | inr e ↦ simp (length-take-le m s hm, length-take-le n t hn, e)
+]
 
 pub siblings-words : (a b z : ℕ) → z ≡ common (field 64 a) (field 64 b) → (eqb (a % 64) (b % 64) && eqb (z + 1) (a % 64)) ≡ siblings (strOf a) (strOf b)
 unfolding strOf
@@ -154,47 +135,36 @@ siblings-words a b z e =
 
 -- ---- order
 
--- a test that goes the way of another
-ltb-as : (a b r s : ℕ) → (r < s → a < b) → (s ≤ r → b ≤ a) → ltb r s ≡ ltb a b
-ltb-as a b r s f g = by (ltb r s) refl
-  where
-    by : (y : Bool) → ltb r s ≡ y → ltb r s ≡ ltb a b
-    by true e = e ∙ sym (lt-ltb a b (f (ltb-true r s e)))
-    by false e = e ∙ sym (le-ltb a b (g (ltb-false r s e)))
+-- the order of bits is the order of the numbers that they say
+less-value : (s t : List Bool) → length s ≡ length t → less s t ≡ ltb (value s) (value t)
+unfolding less valueFrom
+less-value [] [] e = sym (le-ltb 0 0 (omega arith))
+less-value [] (b ∷ t) e = absurd (omega arith)
+less-value (a ∷ s) [] e = absurd (omega arith)
+less-value (false ∷ s) (false ∷ t) e = less-value s t (omega arith)
+less-value (true ∷ s) (true ∷ t) e =
+    let p = front true s s refl in
+    let q = front true t s (omega arith) in
+    less-value s t (omega arith)
+    ∙ iff (λ h. lt-ltb (valueFrom 1 s) (valueFrom 1 t) (omega (arith, ltb-true (value s) (value t) h)))
+    (λ h. lt-ltb (value s) (value t) (omega (arith, ltb-true (valueFrom 1 s) (valueFrom 1 t) h)))
+less-value (true ∷ s) (false ∷ t) e = sym (le-ltb (valueFrom 1 s) (value t) (omega (arith, front true s t (omega arith), value-lt t)))
+less-value (false ∷ s) (true ∷ t) e = sym (lt-ltb (value s) (valueFrom 1 t) (omega (arith, front true t s (omega arith), value-lt s)))
 
-less-step : (k x r y s : ℕ) → x < 2 → y < 2 → r < 2 ^ k → s < 2 ^ k → less (field k r) (field k s) ≡ ltb r s
-    → less (eqb x 1 ∷ field k r) (eqb y 1 ∷ field k s) ≡ ltb (x * 2 ^ k + r) (y * 2 ^ k + s)
-unfolding less
-less-step k zero r zero s hx hy hr hs ih = ih ∙ ltb-as (0 * 2 ^ k + r) (0 * 2 ^ k + s) r s (λ h. omega arith) (λ h. omega arith)
-less-step k (suc zero) r (suc zero) s hx hy hr hs ih = ih ∙ ltb-as (1 * 2 ^ k + r) (1 * 2 ^ k + s) r s (λ h. omega arith) (λ h. omega arith)
-less-step k zero r (suc zero) s hx hy hr hs ih = sym (lt-ltb (0 * 2 ^ k + r) (1 * 2 ^ k + s) (omega arith))
-less-step k (suc zero) r zero s hx hy hr hs ih = sym (le-ltb (1 * 2 ^ k + r) (0 * 2 ^ k + s) (omega arith))
-less-step k zero r (suc (suc y)) s hx hy hr hs ih = absurd (omega arith)
-less-step k (suc zero) r (suc (suc y)) s hx hy hr hs ih = absurd (omega arith)
-less-step k (suc (suc x)) r y s hx hy hr hs ih = absurd (omega arith)
-
--- the order of numbers is the order of their digits, at every width
+-- at every width
 pub less-field : (k a b : ℕ) → a < 2 ^ k → b < 2 ^ k → less (field k a) (field k b) ≡ ltb a b
-unfolding less field
-less-field zero a b ha hb = sym (le-ltb a b (omega arith))
-less-field (suc k) a b ha hb =
-    ap₂ less (field-parts k a ha) (field-parts k b hb)
-    ∙ less-step k (a / 2 ^ k) (a % 2 ^ k) (b / 2 ^ k) (b % 2 ^ k) (top-lt k a ha) (top-lt k b hb) (mod-lt a (pow-pos k)) (mod-lt b (pow-pos k))
-    (less-field k (a % 2 ^ k) (b % 2 ^ k) (mod-lt a (pow-pos k)) (mod-lt b (pow-pos k)))
-    ∙ ap₂ ltb (split a k) (split b k)
+less-field k a b ha hb =
+    less-value (field k a) (field k b) (field-length k a ∙ sym (field-length k b)) ∙ ap₂ ltb (value-field-exact k a ha) (value-field-exact k b hb)
 
 -- first parts of which neither is a prefix of the other stand as the wholes do
 less-take : (m n : ℕ) (s t : Str) → prefix (take m s) (take n t) ≡ false → prefix (take n t) (take m s) ≡ false
     → less (take m s) (take n t) ≡ less s t
-unfolding less prefix
-less-take zero n s t p q = absurd (no (sym p))
-less-take (suc m) n [] t p q = absurd (no (sym p))
-less-take (suc m) zero (a ∷ s) t p q = absurd (no (sym q))
-less-take (suc m) (suc n) (a ∷ s) [] p q = absurd (no (sym q))
-less-take (suc m) (suc n) (true ∷ s) (true ∷ t) p q = less-take m n s t p q
-less-take (suc m) (suc n) (false ∷ s) (false ∷ t) p q = less-take m n s t p q
-less-take (suc m) (suc n) (true ∷ s) (false ∷ t) p q = refl
-less-take (suc m) (suc n) (false ∷ s) (true ∷ t) p q = refl
+less-take m n s t p q =
+    iff (on m n s t)
+    (λ h. not-false (λ e. less-irrefl s (less-trans s t s h (on n m t s (less-total (take m s) (take n t) p q e)))))
+  where
+    on : (m n : ℕ) (s t : Str) → less (take m s) (take n t) ≡ true → less s t ≡ true
+    on m n s t e = rw (take-append-drop m s, take-append-drop n t) at (less-append (take m s) (take n t) (drop m s) (drop n t) e)
 
 -- strings of which neither is a prefix of the other stand as their words do
 pub less-words : (a b : ℕ) → a < 2 ^ 64 → b < 2 ^ 64 → prefix (strOf a) (strOf b) ≡ false → prefix (strOf b) (strOf a) ≡ false
@@ -212,11 +182,8 @@ str-length w = length-take-le (w % 64) (field 64 w) (omega (arith, field-length 
 pub word-value : (s : Str) → wordOf s ≡ value s * 2 ^ (64 - length s) + length s
 unfolding wordOf aligned
 word-value s =
-    ap (λ (n : ℕ). n + length s)
-    (value-append 0 s (replicate (64 - length s) false)
-    ∙ value-shift (value s) (replicate (64 - length s) false)
-    ∙ ap₂ (λ (m n : ℕ). value s * 2 ^ m + n) (length-replicate (64 - length s) false) (value-zeros (64 - length s))
-    ∙ omega arith)
+    let z = replicate (64 - length s) false in
+    rw (value-append 0 s z, value-shift (value s) z, length-replicate (64 - length s) false, value-zeros (64 - length s)) (omega arith)
 
 -- a string's digits leave the six low bits free
 room : (n : ℕ) → n ≤ 58 → 64 ≤ 2 ^ (64 - n)
@@ -236,9 +203,7 @@ word-lt s h = omega (arith, word-value s, room (length s) h, moved-lt (value s) 
 
 -- what is moved to the top is a multiple of 64
 over : (v n : ℕ) → n ≤ 58 → v * 2 ^ (64 - n) ≡ v * 2 ^ (58 - n) * 64
-over v n h =
-    ap (λ (k : ℕ). v * 2 ^ k) (let e : 64 - n ≡ 58 - n + 6 = omega arith in e)
-    ∙ ap (λ (k : ℕ). v * k) (pow-add 2 (58 - n) 6) ∙ sym (mul-assoc v (2 ^ (58 - n)) 64)
+over v n h = let e : 64 - n ≡ 58 - n + 6 = omega arith in rw (e, pow-add 2 (58 - n) 6) (omega arith)
 
 pub word-length : (s : Str) → length s ≤ 58 → wordOf s % 64 ≡ length s
 word-length s h = omega (arith, word-value s, over (value s) (length s) h)
@@ -259,16 +224,13 @@ str-word s h =
 -- the word of a word's string: what stands above the rest, and the length
 word-str : (w : ℕ) → w < 2 ^ 64 → w % 64 ≤ 58 → wordOf (strOf w) ≡ w / 2 ^ (64 - w % 64) * 2 ^ (64 - w % 64) + w % 64
 word-str w h hn =
-    word-value (strOf w)
-    ∙ ap₂ (λ (v n : ℕ). v * 2 ^ (64 - n) + n)
-    (ap value (str-top w) ∙ value-field (w % 64) (w / 2 ^ (64 - w % 64))
-    ∙ mod-eq-of-lt (div-lt-iff-lt-mul (pow-pos (64 - w % 64)) .1 (omega (arith, whole-word (w % 64) (omega arith)))))
-    (str-length w)
+    let m = 64 - w % 64 in
+    let small : w / 2 ^ m < 2 ^ (w % 64) = div-lt-iff-lt-mul (pow-pos m) .1 (omega (arith, whole-word (w % 64) (omega arith))) in
+    rw (word-value (strOf w), str-length w, str-top w, value-field (w % 64) (w / 2 ^ m), mod-eq-of-lt small)
 
 -- moved up by n digits, the m low digits remain
 moved : (x m n : ℕ) → (x * 2 ^ n) % 2 ^ (m + n) ≡ x % 2 ^ m * 2 ^ n
-moved x m n =
-    mod-pow-add (x * 2 ^ n) m n ∙ ap₂ (λ (a b : ℕ). a % 2 ^ m * 2 ^ n + b) (shl-shr x n) (mul-mod-left x (2 ^ n)) ∙ omega arith
+moved x m n = rw (mod-pow-add (x * 2 ^ n) m n, shl-shr x n, mul-mod-left x (2 ^ n)) (omega arith)
 
 -- the two tests over plain numbers: r is what stands behind the digits
 behind : (w n m q r : ℕ) → q * 2 ^ m + r ≡ w → r < 2 ^ m → n ≤ r → m + n ≡ 64
@@ -293,20 +255,16 @@ word-test w h hn =
 -- what a test of a word asks: the length within the limit, and nothing behind the digits
 pub is-word : (most w : ℕ) → most ≤ 58 → w < 2 ^ 64 → (leb (w % 64) most && eqb (((w - w % 64) * 2 ^ (w % 64)) % 2 ^ 64) 0) ≡ isWord most w
 unfolding isWord
-is-word most w hm hw = by (leb (w % 64) most) refl
-  where
-    by : (b : Bool) → leb (w % 64) most ≡ b
-        → (leb (w % 64) most && eqb (((w - w % 64) * 2 ^ (w % 64)) % 2 ^ 64) 0) ≡ (leb (length (strOf w)) most && eqb w (wordOf (strOf w)))
-    by true e = simp (str-length, e) (sym (word-test w hw (omega (arith, leb-true (w % 64) most e))))
-    by false e = simp (str-length, e)
+is-word most w hm hw = elim (decide (leb (w % 64) most)) [
+  | inl e ↦ simp (str-length, e) (sym (word-test w hw (omega (arith, leb-true (w % 64) most e))))
+  | inr e ↦ simp (str-length, e)
+]
 
 grown : (v d n : ℕ) → n < 64 → (v * 2 + d) * 2 ^ (64 - (n + 1)) + (n + 1) ≡ v * 2 ^ (64 - n) + n + 1 + d * 2 ^ (63 - n)
 grown v d n h =
-    let p : 2 ^ (64 - n) ≡ 2 * 2 ^ (63 - n) =
-    ap (λ (k : ℕ). 2 ^ k) (let e : 64 - n ≡ suc (63 - n) = omega arith in e) ∙ pow-suc 2 (63 - n) ∙ mul-comm (2 ^ (63 - n)) 2 in
-    let f : v * 2 * 2 ^ (63 - n) ≡ v * 2 ^ (64 - n) = mul-assoc v 2 (2 ^ (63 - n)) ∙ ap (λ (k : ℕ). v * k) (sym p) in
-    ap (λ (k : ℕ). (v * 2 + d) * 2 ^ k + (n + 1)) (let e : 64 - (n + 1) ≡ 63 - n = omega arith in e)
-    ∙ omega (arith, add-mul (v * 2) d (2 ^ (63 - n)))
+    let e : 64 - (n + 1) ≡ 63 - n = omega arith in
+    let f : 64 - n ≡ suc (63 - n) = omega arith in
+    rw (e, f, pow-suc 2 (63 - n)) (omega arith)
 
 -- a digit more: the length rises by one, and the digit comes behind the others
 pub word-grown : (s : Str) (d : Bool) → length s < 58 → wordOf (s ▹ d) ≡ wordOf s + 1 + digit d * 2 ^ (63 - length s)

@@ -1,8 +1,8 @@
 -- Bits filled up to whole bytes, and the bits of bytes, are inverse to each other: eight bits are the field of the number that they say,
 -- and fewer than eight zeros are the one filling. Assumes nothing.
-use Rattle.laws.proofs.Library.{_≡_, refl, sym, ap, ap₂, _∙_, Bool, true, false, not, List, [], _∷_, _++_, ℕ, zero, suc, _+_, _*_, _-_, _^_, _≤_, _<_}
-use Rattle.laws.proofs.Library.{arith, ltb-true, lt-ltb, ltb, pow-mono, length, take, drop, replicate, length-append, length-take, length-drop}
-use Rattle.laws.proofs.Library.{length-replicate, take-append-drop, take-at, drop-at, length-take-le}
+use Rattle.laws.proofs.Library.{_≡_, refl, sym, ap, ap₂, _∙_, Bool, true, false, not, List, [], _∷_, _++_, ℕ, zero, suc, _+_, _*_, _-_, _^_, _≤_, _<_, arith}
+use Rattle.laws.proofs.Library.{ltb-true, lt-ltb, ltb, pow-mono, length, take, drop, replicate, length-append, length-take, length-drop, length-replicate}
+use Rattle.laws.proofs.Library.{take-append-drop, take-at, drop-at, length-take-le}
 use Rattle.rules.specs.Limits.{byteBits, bytesFor}
 use Rattle.rules.specs.Strings.{field, value}
 use Rattle.rules.specs.Names.{any, all}
@@ -28,8 +28,9 @@ pub bytes-are-bytes : (n : ℕ) (bs : List Bool) → areBytes (bytesOf n bs) ≡
 unfolding bytesOf all
 bytes-are-bytes zero bs = refl
 bytes-are-bytes (suc n) bs =
-    let room : 2 ^ length (take byteBits bs) ≤ 2 ^ byteBits = pow-mono {i = length (take byteBits bs)} {j = byteBits} (omega (arith, length-take byteBits bs)) in
-    and-both (lt-ltb (value (take byteBits bs)) 256 (omega (arith, value-lt (take byteBits bs)))) (bytes-are-bytes n (drop byteBits bs))
+    let s = take byteBits bs in
+    let room : 2 ^ length s ≤ 2 ^ byteBits = pow-mono {i = length s} {j = byteBits} (omega (arith, length-take byteBits bs)) in
+    and-both (lt-ltb (value s) 256 (omega (arith, value-lt s))) (bytes-are-bytes n (drop byteBits bs))
 
 -- bytes are told by their bits
 pub bytes-of-bits : (b : List ℕ) → areBytes b ≡ true → bytesOf (length b) (bitsOf b) ≡ b
@@ -37,9 +38,8 @@ unfolding bytesOf bitsOf all
 bytes-of-bits [] h = refl
 bytes-of-bits (x ∷ b) h =
     let small : x < 256 = ltb-true x 256 (and-left (ltb x 256) (areBytes b) h) in
-    ap₂ (λ (y : ℕ) (l : List ℕ). y ∷ l)
-    (ap value (take-at (field byteBits x) (bitsOf b) byteBits (field-length byteBits x)) ∙ value-field-exact byteBits x small)
-    (ap (bytesOf (length b)) (drop-at (field byteBits x) (bitsOf b) byteBits (field-length byteBits x)) ∙ bytes-of-bits b (and-right (ltb x 256) (areBytes b) h))
+    rw (take-at (field byteBits x) (bitsOf b) byteBits (field-length byteBits x), drop-at (field byteBits x) (bitsOf b) byteBits (field-length byteBits x))
+    (ap₂ (λ (y : ℕ) (l : List ℕ). y ∷ l) (value-field-exact byteBits x small) (bytes-of-bits b (and-right (ltb x 256) (areBytes b) h)))
 
 -- and whole bytes of bits by their bytes
 pub bits-of-bytes : (n : ℕ) (bs : List Bool) → length bs ≡ n * byteBits → bitsOf (bytesOf n bs) ≡ bs

@@ -1,8 +1,8 @@
 -- A reader of bits, of a number or of a string gives back what was written in front of the rest, and what it gives was written there.
 -- Assumes nothing.
 use Rattle.laws.proofs.Library.{_≡_, refl, sym, ap, ap₂, _∙_, Bool, true, false, cond, List, _++_, append-assoc, Option, none, some, Option·none-ne-some}
-use Rattle.laws.proofs.Library.{Option·some-injective, ℕ, _+_, _^_, _≤_, _<_, arith, leb-true, le-leb, leb, length, take, drop, length-append}
-use Rattle.laws.proofs.Library.{take-append-drop, take-at, drop-at, length-take-le}
+use Rattle.laws.proofs.Library.{Option·some-injective, ℕ, _^_, _≤_, _<_, arith, leb-true, le-leb, leb, length, take, drop, length-append, take-append-drop}
+use Rattle.laws.proofs.Library.{take-at, drop-at, length-take-le}
 use Rattle.rules.specs.Limits.{Limits}
 use Rattle.rules.specs.Strings.{Str, field, value}
 use Rattle.rules.specs.Packed.{stringBits, Taken, thenTake, takeBits, takeNumber, takeString}
@@ -42,14 +42,13 @@ unfolding takeBits
 took-bits n bs s rest e =
     let c = let-through (leb n (length bs)) (some (take n bs, drop n bs)) (s, rest) e in
     let p = same-value (take n bs) s (drop n bs) rest (c .1) in
-    (ap length (sym (p .0)) ∙ length-take-le n bs (leb-true n (length bs) (c .0)), sym (take-append-drop n bs) ∙ ap₂ (λ (a b : List Bool). a ++ b) (p .0) (p .1))
+    (ap length (sym (p .0)) ∙ length-take-le n bs (leb-true n (length bs) (c .0)), rw (← (p .0), ← (p .1)) (sym (take-append-drop n bs)))
 
 -- ---- numbers
 
 pub number-back : (w v : ℕ) (rest : List Bool) → v < 2 ^ w → takeNumber w (field w v ++ rest) ≡ some (v, rest)
 unfolding takeNumber
-number-back w v rest h =
-    go-on (λ f r. some (value f, r)) (bits-back w (field w v) rest (field-length w v)) ∙ ap (λ (n : ℕ). some (n, rest)) (value-field-exact w v h)
+number-back w v rest h = rw (bits-back w (field w v) rest (field-length w v), value-field-exact w v h)
 
 pub took-number : (w : ℕ) (bs : List Bool) (v : ℕ) (rest : List Bool) → takeNumber w bs ≡ some (v, rest) → (v < 2 ^ w) × (bs ≡ field w v ++ rest)
 unfolding takeNumber
@@ -65,9 +64,8 @@ module _ (L : Limits) where
   pub string-back : (s : Str) (rest : List Bool) → length s ≤ L .digits → L .digits < 2 ^ L .lengthBits → takeString L (stringBits L s ++ rest) ≡ some (s, rest)
   unfolding takeString stringBits
   string-back s rest short fits =
-      ap (takeString L) (append-assoc (field (L .lengthBits) (length s)) s rest)
-      ∙ go-on (λ n r. cond (leb n (L .digits)) (takeBits n r) none) (number-back (L .lengthBits) (length s) (s ++ rest) (omega arith))
-      ∙ rw (le-leb (length s) (L .digits) short) (bits-back (length s) s rest refl)
+      rw (append-assoc (field (L .lengthBits) (length s)) s rest, number-back (L .lengthBits) (length s) (s ++ rest) (omega arith))
+      (rw (le-leb (length s) (L .digits) short) (bits-back (length s) s rest refl))
 
   pub took-string : (bs : List Bool) (s : Str) (rest : List Bool) → takeString L bs ≡ some (s, rest) → (length s ≤ L .digits) × (bs ≡ stringBits L s ++ rest)
   unfolding takeString stringBits

@@ -1,15 +1,15 @@
 -- Names and stamps go through the packed bits and back: the count says how many strings follow, and each says how long it is.
 -- What is read rises as a name does. Assumes nothing.
-use Rattle.laws.proofs.Library.{_≡_, refl, sym, ap, ap₂, _∙_, subst, subst₂, Bool, true, cond, _&&_, List, [], _∷_, _++_, append-assoc, inl, ⊎-elim, none}
-use Rattle.laws.proofs.Library.{some, ℕ, zero, suc, _+_, _-_, _^_, _≤_, _<_, arith, leb-true, le-leb, leb, lit<, lit≤, length}
+use Rattle.laws.proofs.Library.{_≡_, refl, sym, ap, ap₂, _∙_, subst, subst₂, Bool, true, List, [], _∷_, _++_, append-assoc, ⊎-elim, inr, inl, some, ℕ, zero}
+use Rattle.laws.proofs.Library.{suc, _-_, _^_, _≤_, _<_, arith, leb, lit<, lit≤, length}
 use Rattle.rules.specs.Limits.{Limits, narrow}
 use Rattle.rules.specs.Strings.{Str, field, less}
-use Rattle.rules.specs.Names.{Name, all, rising, isName, below}
-use Rattle.rules.specs.Stamps.{Stamp, lawful, isNone, pair}
-use Rattle.rules.specs.Packed.{stringBits, stringsBits, nameBits, stampBits, thenTake, takeString, takeMore, takeName, takeStamp}
-use Rattle.laws.proofs.Tests.{and-left, and-right, and-both}
-use Rattle.laws.proofs.Rising.{less-trans, rising-head, rising-tail, rising-cons}
-use Rattle.layout.proofs.Fields.{let-through, same-value, steps, go-on, number-back, took-number, string-back, took-string}
+use Rattle.rules.specs.Names.{Name, all, rising, isName}
+use Rattle.rules.specs.Stamps.{Stamp, lawful}
+use Rattle.rules.specs.Packed.{stringBits, stringsBits, nameBits, stampBits, thenTake, takeMore, takeName, takeStamp}
+use Rattle.laws.proofs.Rising.{rising-head, rising-tail, rising-cons, rising-before}
+use Rattle.laws.proofs.Lawful.{Short, short-all, name-parts, parts-name, lawful-parts}
+use Rattle.layout.proofs.Fields.{let-through, same-value, steps, number-back, took-number, string-back, took-string}
 
 -- the fields are wide enough for what the limits allow
 pub record Fitting (L : Limits) : Type 0 where
@@ -31,70 +31,33 @@ pub record Named (L : Limits) (n : Name) : Type 0 where
   pub rises : rising n ≡ true
 
 pub named : (L : Limits) (n : Name) → isName L n ≡ true → Named L n
-unfolding isName
 named L n h =
-    let a = leb 1 (length n) in
-    let b = leb (length n) (L .strings) in
-    let c = allShort L n in
-    let abc : (a && b && c) ≡ true = and-left (a && b && c) (rising n) h in
-    let ab : (a && b) ≡ true = and-left (a && b) c abc in
-    record {
-      nonempty = leb-true 1 (length n) (and-left a b ab);
-      few = leb-true (length n) (L .strings) (and-right a b ab);
-      short = and-right (a && b) c abc;
-      rises = and-right (a && b && c) (rising n) h;
-    }
-
-pub is-name : (L : Limits) (n : Name) → Named L n → isName L n ≡ true
-unfolding isName
-is-name L n i = and-both (and-both (and-both (le-leb 1 (length n) (i .nonempty)) (le-leb (length n) (L .strings) (i .few))) (i .short)) (i .rises)
+    let p = name-parts L n h in
+    record { nonempty = p .filled; few = p .few; short = short-all (L .digits) n (p .short); rises = p .rises }
 
 -- both parts of a lawful stamp are names
 pub lawful-names : (L : Limits) (s : Stamp) → lawful L s ≡ true → (isName L (s .update) ≡ true) × (isName L (s .id) ≡ true)
-unfolding lawful
-lawful-names L s h =
-    let u = isName L (s .update) in
-    let i = isName L (s .id) in
-    let b = below (s .update) (s .id) in
-    let both : (u && i) ≡ true = and-left (u && i) b (and-left (u && i && b) (isNone (pair (s .id))) h) in
-    (and-left u i both, and-right u i both)
+lawful-names L s h = let p = lawful-parts L s h in (parts-name L (s .update) (p .updateNamed), parts-name L (s .id) (p .idNamed))
 
 module _ (L : Limits) where
-  -- ---- short strings
-
-  pub short-head : (s : Str) (n : Name) → allShort L (s ∷ n) ≡ true → length s ≤ L .digits
-  unfolding all
-  short-head s n h = leb-true (length s) (L .digits) (and-left (leb (length s) (L .digits)) (allShort L n) h)
-
-  pub short-tail : (s : Str) (n : Name) → allShort L (s ∷ n) ≡ true → allShort L n ≡ true
-  unfolding all
-  short-tail s n h = and-right (leb (length s) (L .digits)) (allShort L n) h
-
-  short-cons : (s : Str) (n : Name) → length s ≤ L .digits → allShort L n ≡ true → allShort L (s ∷ n) ≡ true
-  unfolding all
-  short-cons s n p h = and-both (le-leb (length s) (L .digits) p) h
-
-  -- a string before the first of rising ones is before them all
-  rising-before : (s t : Str) (n : Name) → less s t ≡ true → rising (t ∷ n) ≡ true → rising (s ∷ t ∷ n) ≡ true
-  rising-before s t n p h =
-      rising-cons s (t ∷ n) (λ u i. ⊎-elim (λ e. subst (λ (x : Str). less s x ≡ true) (sym e) p) (λ j. less-trans s t u p (rising-head t n h u j)) i) h
+  -- one more string that is not too long
+  short-cons : (s : Str) (n : Name) → length s ≤ L .digits → Short (L .digits) n → Short (L .digits) (s ∷ n)
+  short-cons s n p h t i = ⊎-elim (λ e. rw e p) (h t) i
 
   -- ---- the strings after the first
 
-  more-back : L .digits < 2 ^ L .lengthBits → (s : Str) (n : Name) (rest : List Bool) → allShort L n ≡ true → rising (s ∷ n) ≡ true
+  more-back : L .digits < 2 ^ L .lengthBits → (s : Str) (n : Name) (rest : List Bool) → Short (L .digits) n → rising (s ∷ n) ≡ true
       → takeMore L (length n) s (stringsBits L n ++ rest) ≡ some (n, rest)
   unfolding takeMore stringsBits
   more-back fits s [] rest short h = refl
   more-back fits s (t ∷ n) rest short h =
-      ap (takeMore L (suc (length n)) s) (append-assoc (stringBits L t) (stringsBits L n) rest)
-      ∙ go-on (λ u r. cond (less s u) (thenTake (takeMore L (length n) u r) (λ m end. some (u ∷ m, end))) none)
-      (string-back L t (stringsBits L n ++ rest) (short-head t n short) fits)
-      ∙ rw (rising-head s (t ∷ n) h t (inl refl)) (go-on (λ m end. some (t ∷ m, end)) (more-back fits t n rest (short-tail t n short) (rising-tail s (t ∷ n) h)))
+      rw (append-assoc (stringBits L t) (stringsBits L n) rest, string-back L t (stringsBits L n ++ rest) (short t (inl refl)) fits)
+      (rw (rising-head s (t ∷ n) h t (inl refl), more-back fits t n rest (λ u i. short u (inr i)) (rising-tail s (t ∷ n) h)))
 
   -- so many strings, each allowed, each after the one before it, were written there
   pub record More (k : ℕ) (s : Str) (bs : List Bool) (n : Name) (rest : List Bool) : Type 0 where
     pub count : length n ≡ k
-    pub short : allShort L n ≡ true
+    pub short : Short (L .digits) n
     pub rises : rising (s ∷ n) ≡ true
     pub bits : bs ≡ stringsBits L n ++ rest
 
@@ -103,7 +66,7 @@ module _ (L : Limits) where
   took-more zero s bs n rest e =
       let p = same-value [] n bs rest e in
       subst₂ (λ (m : Name) (r : List Bool). More zero s bs m r) (p .0) (p .1)
-      (record { count = refl; short = refl; rises = rising-cons s [] (λ t i. absurd i) refl; bits = refl })
+      (record { count = refl; short = λ t i. absurd i; rises = rising-cons s [] (λ t i. absurd i) refl; bits = refl })
   took-more (suc k) s bs n rest e = steps _ _ (n, rest) e (λ t r first next.
       let c = let-through (less s t) (thenTake (takeMore L k t r) (λ m end. some (t ∷ m, end))) (n, rest) next in
       steps _ _ (n, rest) (c .1) (λ m end more last.
@@ -124,28 +87,22 @@ module _ (L : Limits) where
   name-bits : (s : Str) (n : Name) (rest : List Bool)
       → nameBits L (s ∷ n) ++ rest ≡ field (L .countBits) (length n) ++ (stringBits L s ++ (stringsBits L n ++ rest))
   unfolding nameBits stringsBits
-  name-bits s n rest =
-      ap (λ (k : ℕ). field (L .countBits) k ++ (stringBits L s ++ stringsBits L n) ++ rest) (let e : suc (length n) - 1 ≡ length n = omega arith in e)
-      ∙ append-assoc (field (L .countBits) (length n)) (stringBits L s ++ stringsBits L n) rest
-      ∙ ap (λ (r : List Bool). field (L .countBits) (length n) ++ r) (append-assoc (stringBits L s) (stringsBits L n) rest)
+  name-bits s n rest = let e : suc (length n) - 1 ≡ length n = omega arith in simp (e, append-assoc)
 
   pub name-back : Fitting L → (n : Name) (rest : List Bool) → isName L n ≡ true → takeName L (nameBits L n ++ rest) ≡ some (n, rest)
   unfolding takeName
-  name-back fit [] rest h = absurd (omega (arith, named L [] h .nonempty))
+  name-back fit [] rest h = absurd (omega (arith, name-parts L [] h .filled))
   name-back fit (s ∷ n) rest h =
-      let i = named L (s ∷ n) h in
-      ap (takeName L) (name-bits s n rest)
-      ∙ go-on (λ k r. thenTake (takeString L r) (λ t more. thenTake (takeMore L k t more) (λ m end. some (t ∷ m, end))))
-      (number-back (L .countBits) (length n) (stringBits L s ++ (stringsBits L n ++ rest)) (omega (arith, i .few, fit .counts)))
-      ∙ go-on (λ t more. thenTake (takeMore L (length n) t more) (λ m end. some (t ∷ m, end)))
-      (string-back L s (stringsBits L n ++ rest) (short-head s n (i .short)) (fit .lengths))
-      ∙ go-on (λ m end. some (s ∷ m, end)) (more-back (fit .lengths) s n rest (short-tail s n (i .short)) (i .rises))
+      let i = name-parts L (s ∷ n) h in
+      rw (name-bits s n rest, number-back (L .countBits) (length n) (stringBits L s ++ (stringsBits L n ++ rest)) (omega (arith, i .few, fit .counts)))
+      (rw (string-back L s (stringsBits L n ++ rest) (i .short s (inl refl)) (fit .lengths))
+      (rw (more-back (fit .lengths) s n rest (λ t j. i .short t (inr j)) (i .rises))))
 
   -- a name was found: written there, of as many strings as its count can say
   pub record Found (bs : List Bool) (n : Name) (rest : List Bool) : Type 0 where
     pub nonempty : 1 ≤ length n
     pub few : length n ≤ 2 ^ L .countBits
-    pub short : allShort L n ≡ true
+    pub short : Short (L .digits) n
     pub rises : rising n ≡ true
     pub bits : bs ≡ nameBits L n ++ rest
 
@@ -176,9 +133,8 @@ module _ (L : Limits) where
       → takeStamp L (stampBits L s ++ rest) ≡ some (s, rest)
   unfolding takeStamp stampBits
   stamp-back fit s rest u i =
-      ap (takeStamp L) (append-assoc (nameBits L (s .update)) (nameBits L (s .id)) rest)
-      ∙ go-on (λ m r. thenTake (takeName L r) (λ n end. some (record { update = m; id = n }, end))) (name-back fit (s .update) (nameBits L (s .id) ++ rest) u)
-      ∙ go-on (λ n end. some (record { update = s .update; id = n }, end)) (name-back fit (s .id) rest i)
+      rw (append-assoc (nameBits L (s .update)) (nameBits L (s .id)) rest, name-back fit (s .update) (nameBits L (s .id) ++ rest) u)
+      (rw (name-back fit (s .id) rest i))
 
   pub took-stamp : (bs : List Bool) (s : Stamp) (rest : List Bool) → takeStamp L bs ≡ some (s, rest) → bs ≡ stampBits L s ++ rest
   unfolding takeStamp stampBits
@@ -201,4 +157,4 @@ module _ (L : Limits) where
       subst (λ (t : Stamp). (isName L (t .update) ≡ true) × (isName L (t .id) ≡ true)) (p .0) (by u (took-name bs u r first), by i (took-name r i end second))))
     where
       by : {bs rest : List Bool} (n : Name) → Found bs n rest → isName L n ≡ true
-      by n f = is-name L n (record { nonempty = f .nonempty; few = omega (arith, f .few); short = f .short; rises = f .rises })
+      by n f = parts-name L n (record { filled = f .nonempty; few = omega (arith, f .few); short = f .short; rises = f .rises })

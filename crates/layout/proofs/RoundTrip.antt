@@ -1,25 +1,20 @@
 -- Packed stamps and bytes that read are one to one. Writing then reading gives a lawful stamp back, and no other stamp has its bytes;
 -- reading then writing gives the bytes back, and no other bytes read as that stamp. Assumes nothing.
-use Rattle.laws.proofs.Library.{_≡_, refl, sym, ap, _∙_, Bool, true, false, List, Option, none, some, Option·none-ne-some, Option·some-injective, ℕ, _^_}
-use Rattle.laws.proofs.Library.{_≤_, leb, lit≤, leb-true, length}
+use Rattle.laws.proofs.Library.{_≡_, refl, sym, ap, _∙_, Bool, true, List, Option, none, some, Option·none-ne-some, Option·some-injective, ℕ, _^_, _≤_, lit≤}
+use Rattle.laws.proofs.Library.{length, arith, inl, inr}
 use Rattle.rules.specs.Limits.{Limits, narrow}
-use Rattle.rules.specs.Names.{Name, isName}
+use Rattle.rules.specs.Names.{isName}
 use Rattle.rules.specs.Stamps.{Stamp, lawful}
-use Rattle.rules.specs.Stored.{wordsOf, stored, strsIn, held}
+use Rattle.rules.specs.Stored.{stored, held}
 use Rattle.rules.specs.Refusals.{first}
 use Rattle.rules.specs.Packed.{stampBits, packed, bitsOf, Taken, takeStamp, isFilling, filledOnly, unpacked, readAs, readStamp}
 use Rattle.rules.specs.Promises.{WriteRead, ReadWrite}
-use Rattle.rules.specs.declared.Answer.{Answer}
-use Rattle.rules.specs.declared.Answer.the-variants.{Done, Refused}
-use Rattle.laws.proofs.Tests.{no, all-each}
-use Rattle.laws.proofs.Stored.{strs-of-words, held-stored}
+use Rattle.rules.specs.declared.Answer.the-variants.{Done}
+use Rattle.laws.proofs.Tests.{decide}
+use Rattle.laws.proofs.Stored.{held-stored}
 use Rattle.layout.proofs.Bytes.{areBytes, fillingOf, packed-bits, filling-is, pack-of-bits}
 use Rattle.layout.proofs.Fields.{let-through}
-use Rattle.layout.proofs.Names.{Fitting, narrow-fits, allShort, lawful-names, stamp-back, took-stamp, took-names}
-
-isDone : Answer → Bool
-isDone Done = true
-isDone (Refused r) = false
+use Rattle.layout.proofs.Names.{Fitting, narrow-fits, lawful-names, stamp-back, took-stamp, took-names}
 
 module _ (L : Limits) where
   -- ---- stamps and bytes
@@ -27,9 +22,7 @@ module _ (L : Limits) where
   pub unpacked-packed : Fitting L → (s : Stamp) → isName L (s .update) ≡ true → isName L (s .id) ≡ true → unpacked L (packed L s) ≡ some s
   unfolding unpacked packed
   unpacked-packed fit s u i =
-      let z = fillingOf (length (stampBits L s)) in
-      ap (λ (bs : List Bool). filledOnly (takeStamp L bs)) (packed-bits (stampBits L s)) ∙ ap filledOnly (stamp-back L fit s z u i)
-      ∙ rw (filling-is (length (stampBits L s)))
+      rw (packed-bits (stampBits L s), stamp-back L fit s (fillingOf (length (stampBits L s))) u i, filling-is (length (stampBits L s)))
 
   filled : {P : Type 0} (t : Taken Stamp) (s : Stamp) → filledOnly t ≡ some s → ((z : List Bool) → t ≡ some (s, z) → isFilling z ≡ true → P) → P
   filled none s e k = absurd (Option·none-ne-some s e)
@@ -71,21 +64,16 @@ module _ (L : Limits) where
   -- what an accepted reading found
   accepted : {P : Type 0} (o : Option Stamp) → readAs L o .answer ≡ Done
       → ((s : Stamp) → o ≡ some s → lawful L s ≡ true → readAs L o .stamp ≡ stored L s → P) → P
-  unfolding first isDone
-  accepted none e k = absurd (no (ap isDone e))
-  accepted {P} (some s) e k = by (lawful L s) refl
-    where
-      by : (b : Bool) → lawful L s ≡ b → P
-      by true p = k s refl p (rw p)
-      by false p = absurd (no (ap isDone (rw p at e)))
+  unfolding first
+  accepted none e k = absurd (let z : _≡_ {A = ℕ} 0 1 = cc in omega arith)
+  accepted (some s) e k = elim (decide (lawful L s)) [
+    | inl p ↦ k s refl p (rw p)
+    | inr p ↦ absurd (let z : _≡_ {A = ℕ} 0 1 = cc (rw p at e) in omega arith)
+  ]
 
   -- ---- the record that was read
 
   module _ (room : L .digits ≤ 58) where
-    -- a name's record tells the name
-    pub strs-in : (n : Name) → allShort L n ≡ true → strsIn (wordsOf L n) ≡ n
-    strs-in n h = strs-of-words L room n (λ s i. leb-true (length s) (L .digits) (all-each (λ t. leb (length t) (L .digits)) n h s i))
-
     -- "for all accepted bytes read then write gives the bytes back"
     pub read-write : ReadWrite L
     unfolding readStamp

@@ -1,14 +1,16 @@
 -- How many bytes a packed stamp takes: as many as hold its bits, and those of a lawful stamp lie between two names of one empty string
 -- and two full ones. Each digit more is one bit more, so both branches of a fork take the same number.
-use Rattle.laws.proofs.Library.{_≡_, sym, ap, _∙_, Bool, true, false, [], _∷_, ℕ, _+_, _*_, _-_, _≤_, mul-le-mul-right, arith, length, length-append}
+use Rattle.laws.proofs.Library.{_≡_, refl, sym, ap, _∙_, Bool, true, false, inl, leb, [], _∷_, _+_, _*_, _≤_, mul-le-mul-right, arith, length, length-append}
 use Rattle.rules.specs.Limits.{Limits, narrow, bytesFor, shortest, longest}
-use Rattle.rules.specs.Strings.{Str, _▹_, field}
-use Rattle.rules.specs.Names.{Name, isName}
+use Rattle.rules.specs.Strings.{Str, _▹_}
+use Rattle.rules.specs.Names.{Name, all, isName}
 use Rattle.rules.specs.Stamps.{Stamp, lawful, append, fork}
 use Rattle.rules.specs.Packed.{stringBits, stringsBits, nameBits, stampBits, packBits, packed}
 use Rattle.laws.proofs.Bits.{field-length}
 use Rattle.layout.proofs.Bytes.{areBytes, pack-length, bytes-are-bytes}
-use Rattle.layout.proofs.Names.{allShort, named, lawful-names, short-head, short-tail}
+use Rattle.layout.proofs.Names.{allShort, named, lawful-names}
+use Rattle.laws.proofs.Tests.{and-right}
+use Rattle.laws.proofs.Lawful.{all-short}
 
 module _ (L : Limits) where
   packed-length : (s : Stamp) → length (packed L s) ≡ bytesFor (length (stampBits L s))
@@ -21,17 +23,15 @@ module _ (L : Limits) where
 
   pub string-length : (s : Str) → length (stringBits L s) ≡ L .lengthBits + length s
   unfolding stringBits
-  string-length s = length-append (field (L .lengthBits) (length s)) s ∙ ap (λ (n : ℕ). n + length s) (field-length (L .lengthBits) (length s))
+  string-length s = simp (length-append, field-length)
 
   pub strings-length : (s : Str) (n : Name) → length (stringsBits L (s ∷ n)) ≡ L .lengthBits + length s + length (stringsBits L n)
   unfolding stringsBits
-  strings-length s n = length-append (stringBits L s) (stringsBits L n) ∙ ap (λ (k : ℕ). k + length (stringsBits L n)) (string-length s)
+  strings-length s n = simp (length-append, string-length)
 
   pub name-length : (n : Name) → length (nameBits L n) ≡ L .countBits + length (stringsBits L n)
   unfolding nameBits
-  name-length n =
-      length-append (field (L .countBits) (length n - 1)) (stringsBits L n)
-      ∙ ap (λ (k : ℕ). k + length (stringsBits L n)) (field-length (L .countBits) (length n - 1))
+  name-length n = simp (length-append, field-length)
 
   stamp-length : (s : Stamp) → length (stampBits L s) ≡ length (nameBits L (s .update)) + length (nameBits L (s .id))
   unfolding stampBits
@@ -44,9 +44,10 @@ module _ (L : Limits) where
   -- ---- between the shortest and the longest
 
   pub strings-most : (n : Name) → allShort L n ≡ true → length (stringsBits L n) ≤ length n * (L .lengthBits + L .digits)
-  unfolding stringsBits
+  unfolding stringsBits all
   strings-most [] h = omega arith
-  strings-most (s ∷ n) h = omega (arith, strings-length s n, short-head L s n h, strings-most n (short-tail L s n h))
+  strings-most (s ∷ n) h =
+      omega (arith, strings-length s n, all-short (L .digits) (s ∷ n) h s (inl refl), strings-most n (and-right (leb (length s) (L .digits)) (allShort L n) h))
 
   name-least : (n : Name) → isName L n ≡ true → L .countBits + L .lengthBits ≤ length (nameBits L n)
   name-least [] h = absurd (omega (arith, named L [] h .nonempty))

@@ -1,6 +1,6 @@
 -- Fields of bits as numbers: what reading bits from bytes and writing them both cite. Assumes nothing.
-use Rattle.laws.proofs.Library.{_≡_, refl, sym, ap, ap₂, _∙_, Bool, true, false, not, List, [], _∷_, _++_, ℕ, suc, _+_, _*_, _^_, _≤_, _<_}
-use Rattle.laws.proofs.Library.{mul-le-mul-right, suc-mul, arith, lt-ltb, ne-eqb, eqb, pow-pos, pow-add, high, low, length, getD}
+use Rattle.laws.proofs.Library.{_≡_, refl, sym, ap, ap₂, _∙_, Bool, true, false, not, List, [], _∷_, _++_, ℕ, suc, _+_, _*_, _^_, _≤_, _<_, mul-le-mul-right}
+use Rattle.laws.proofs.Library.{suc-mul, arith, lt-ltb, ne-eqb, eqb, pow-pos, pow-add, high, low, length, getD}
 use Rattle.rules.specs.Strings.{field, valueFrom, value}
 use Rattle.rules.specs.Names.{any, all}
 use Rattle.rules.specs.Packed.{isFilling}
