@@ -87,14 +87,16 @@ module _ (L : Limits) (n : Words) (h : isStoredName L n ≡ true) where
 -- no more words are counted than there are, and so many are taken
 pub record Counted (n : Words) : Type 0 where
   pub few : n .count ≤ narrow .strings
+  pub full : length (n .words) ≡ narrow .strings
   pub inside : n .count ≤ length (n .words)
   pub taken : n .count ≡ length (take (n .count) (n .words))
 
 stored-counted : (n : Words) → isStoredName narrow n ≡ true → Counted n
 stored-counted n h =
     let few = stored-few narrow n h in
-    let inside : n .count ≤ length (n .words) = omega (arith, few, stored-full narrow n h) in
-    record { few = few; inside = inside; taken = sym (length-take-le _ _ inside) }
+    let full = stored-full narrow n h in
+    let inside : n .count ≤ length (n .words) = omega (arith, few, full) in
+    record { few = few; full = full; inside = inside; taken = sym (length-take-le _ _ inside) }
 
 -- of both names of a stored record
 pub both-counted : (r : Record) → isStored narrow r ≡ true → Counted (r .update) × Counted (r .id)

@@ -1,6 +1,6 @@
 -- `calls::update` meets its contract: a refusal of the reader is passed out, and what is read is lawful, so that its update is too,
 -- and only a short buffer is left to refuse. Assumes nothing.
-use Rattle.laws.proofs.Library.{_≡_, sym, ap, _∙_, true, List, ℕ, needs, lit≤, take}
+use Rattle.laws.proofs.Library.{_≡_, sym, ap, _∙_, true, List, ℕ, arith, needs, lit≤, take, length-take-le}
 use Rattle.rules.specs.Limits.{narrow}
 use Rattle.rules.specs.Stamps.{update}
 use Rattle.rules.specs.Stored.{stored, strsIn, held, isStored}
@@ -49,6 +49,10 @@ module _ (c : tie.After-enum-told) where
       (givenBy (reading .read-in .result) (reading .read-in .last .1 .0) (reading .read-in .last .1 .1 .0) .stamp)
   read = was-read (reading .read-in .ensures) (c .enum-told .given .1)
 
+-- neither name has more strings than words were lent
+inside : tie.Need-array-share-prefix-i
+inside c = let x = read c in omega (arith, x .id .full, x .id .few, x .update .few)
+
 returns : tie.Need-returns
 returns c =
     let no = c .before .enum-told2 .given .1 in
@@ -61,4 +65,4 @@ returns-2 c =
 
 pub update-spec : {M : Type 1} → statement M
 update-spec = tie.close (tie.spec (λ c κs. search needs) (λ c. search needs) (λ c. search needs) (λ c κs. search needs) returns
-    (λ c. read c .id .inside) (λ c. read (c .before) .id .taken) (λ c κs. search needs) (λ c. search needs) returns-2)
+    inside (λ c. sym (length-take-le _ _ (inside (c .before)))) (λ c κs. search needs) (λ c. search needs) returns-2)
