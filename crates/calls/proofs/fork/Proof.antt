@@ -76,7 +76,10 @@ module _ (c : tie.After-enum-told) where
   abbrev a : Record
   a = givenBy (reading .read-in .result) (reading .read-in .last .1 .0) (reading .read-in .last .1 .1 .0) .stamp
 
-  read : Read (reading .before .before .before .before .before .before .args .stamp .now) a
+  abbrev begun : tie.Start
+  begun = reading .before .before .before .before .before .before
+
+  read : Read (begun .args .stamp .now) a
   read = was-read (reading .read-in .ensures) (c .enum-told .given .1)
 
 -- its branches
@@ -105,7 +108,8 @@ returns c =
 returns-2 : tie.Need-returns-2
 returns-2 c =
     let l = c .before in
-    two _ _ (too-long (read (l .before .before)) _ _ (sym (l .is-long .ensures) ∙ c .if1 .taken))
+    let t = l .before .before in
+    two _ _ (too-long (read t) (begun t .args .zero .now) (begun t .args .one .now) (sym (l .is-long .ensures) ∙ c .if1 .taken))
 
 returns-3 : tie.Need-returns-3
 returns-3 c =

@@ -45,7 +45,10 @@ module _ (c : tie.After-enum-told) where
   abbrev reading : tie.After-read-in
   reading = c .before .before
 
-  read : Read (reading .before .before .before .before .before .args .stamp .now)
+  abbrev begun : tie.Start
+  begun = reading .before .before .before .before .before
+
+  read : Read (begun .args .stamp .now)
       (givenBy (reading .read-in .result) (reading .read-in .last .1 .0) (reading .read-in .last .1 .1 .0) .stamp)
   read = was-read (reading .read-in .ensures) (c .enum-told .given .1)
 
@@ -61,7 +64,8 @@ returns c =
 returns-2 : tie.Need-returns-2
 returns-2 c =
     let w = c .before .before in
-    tells-same (writes _ _ (read (w .before .before .before))) (w .write-alike .ensures)
+    let r = w .before .before .before in
+    tells-same {l = w .write-alike .last .1 .0} (writes (begun r .args .stamp .now) (begun r .args .out .now) (read r)) (w .write-alike .ensures)
 
 pub update-spec : {M : Type 1} → statement M
 update-spec = tie.close (tie.spec (λ c κs. search needs) (λ c. search needs) (λ c. search needs) (λ c κs. search needs) returns
