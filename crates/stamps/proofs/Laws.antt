@@ -143,7 +143,7 @@ pub refusal-not-done : {r : Refusal} → Refused r ≡ Done → ⊥
 refusal-not-done e = let z : _≡_ {A = ℕ} 0 1 = cc in omega arith
 
 -- tests, and then more tests
-first-then : (ts us : List (Bool × Refusal)) → first (ts ++ us) ≡ andThen (first ts) (first us)
+pub first-then : (ts us : List (Bool × Refusal)) → first (ts ++ us) ≡ andThen (first ts) (first us)
 unfolding first
 first-then [] us = refl
 first-then (t ∷ ts) us = by (t .0) (first-then ts us)
