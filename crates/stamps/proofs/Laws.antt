@@ -1,5 +1,5 @@
--- A stored record in the parts that the code asks for, one after the other, and what the walks tell of the words that a stored name counts.
--- Assumes nothing.
+-- A stored record in the parts that the code asks for, one after the other; what the walks tell of the words that a stored name counts; and what
+-- two stamps are refused for, test after test. Assumes nothing.
 use Rattle.laws.proofs.Library.{_≡_, refl, sym, ap, _∙_, Bool, true, false, cond, not, _&&_, List, [], _∷_, _++_, ℕ, _≤_, arith, eqb, length, take}
 use Rattle.laws.proofs.Library.{length-take-le}
 use Rattle.rules.specs.Limits.{Limits, narrow}

@@ -37,7 +37,8 @@ record Branch (r : Record) (d : Bool) (ws : List ℕ) : Type 0 where
   stored : isStored narrow (with-id r ws) ≡ true
   id : Counted (with-id r ws .id)
 
-refused : (s x y : List ℕ) {n : Refusal} → readStamp narrow s .answer ≡ Refused n → packedFork narrow s x y ≡ record { answer = NotWritten n; zero = x; one = y }
+refused : (s x y : List ℕ) {n : Refusal} → readStamp narrow s .answer ≡ Refused n
+    → packedFork narrow s x y ≡ record { answer = NotWritten n; zero = x; one = y }
 unfolding packedFork wroteTwo
 refused s x y n = rw n
 

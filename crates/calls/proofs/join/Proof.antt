@@ -2,7 +2,7 @@
 -- refused for; of the join of two lawful stamps only 7 and 10 are left to refuse. Assumes nothing.
 use Rattle.laws.proofs.Library.{_≡_, refl, sym, _∙_, Bool, true, false, List, [], ℕ, needs, lit≤}
 use Rattle.rules.specs.Limits.{narrow}
-use Rattle.rules.specs.Stamps.{Stamp, join}
+use Rattle.rules.specs.Stamps.{join}
 use Rattle.rules.specs.Stored.{strsIn, held}
 use Rattle.rules.specs.Refusals.{first, many}
 use Rattle.rules.specs.Values.{meeting}
@@ -38,10 +38,7 @@ module _ (s t l : List ℕ) where
 
       writes : first (meeting narrow a b []) ≡ Done → wroteJoin (held a) (held b) l ≡ packedJoin narrow s t l
       unfolding packedJoin wroteJoin first wrote
-      writes k = by (many narrow both) refl where
-        both : Stamp
-        both = join (held a) (held b)
-
+      writes k = by (many narrow (join (held a) (held b))) refl where
         by : (m : Bool) → many narrow (join (held a) (held b)) ≡ m → wroteJoin (held a) (held b) l ≡ packedJoin narrow s t l
         by true m = rw (x .is, y .is, joined-then narrow a b, k, m)
         by false m =

@@ -26,7 +26,8 @@ first-lawful c = sym (c .before .is-lawful-in .ensures) ∙ not-false _ (c .if1 
 returns-2 : tie.Need-returns-2
 returns-2 c =
     let m = c .before in
-    refuses _ _ (second-unlawful narrow _ _ (first-lawful (m .before .before .before .before .before .before)) (sym (m .is-lawful-in2 .ensures) ∙ not-true _ (c .if2 .taken)))
+    refuses _ _
+    (second-unlawful narrow _ _ (first-lawful (m .before .before .before .before .before .before)) (sym (m .is-lawful-in2 .ensures) ∙ not-true _ (c .if2 .taken)))
 
 returns-3 : tie.Need-returns-3
 returns-3 c =
