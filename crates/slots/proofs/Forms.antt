@@ -1,5 +1,5 @@
 -- What the calls by value answer, as the table says it: a record that they refuse as unlawful is 12 there. Assumes nothing.
-use Rattle.laws.proofs.Library.{_≡_, refl, sym, ap, _∙_, Bool, true, false, cond, List, [], _∷_, _++_, map, ℕ, arith}
+use Rattle.laws.proofs.Library.{_≡_, refl, sym, ap, _∙_, Bool, true, false, cond, List, [], _∷_, map, ℕ, arith}
 use Rattle.rules.specs.Limits.{narrow}
 use Rattle.rules.specs.Packed.{comparedNumber}
 use Rattle.rules.specs.Stamps.{Stamp, update, fork, join, compare}
@@ -15,6 +15,7 @@ use Rattle.rules.specs.declared.Verdict.{Verdict}
 use Rattle.rules.specs.declared.Verdict.the-variants.{Equal, Obsolete, Newer, Conflict}
 use Rattle.rules.specs.declared.Given.{Given}
 use Rattle.rules.specs.declared.Forked.{Forked}
+use Rattle.stamps.proofs.Laws.{first-then}
 use Rattle.slots.specs.Gates.{codeOf}
 use Rattle.slots.specs.Rules.{refusedAt, atTable, tableCode, answerCode, pairTests, meetTests, oneOf, twoOf, fullCode, joinRule}
 
@@ -117,17 +118,6 @@ compare-form s u =
 answer-done : (r : Answer) → answerCode r 0 ≡ 0 → r ≡ Done
 answer-done Done e = refl
 answer-done (Refused r) e = absurd (omega arith)
-
--- tests, and then more tests
-first-then : (ts us : List (Bool × Refusal)) → first (ts ++ us) ≡ andThen (first ts) (first us)
-unfolding first
-first-then [] us = refl
-first-then (t ∷ ts) us = by (t .0) (first-then ts us)
-  where
-    by : (b : Bool) → first (ts ++ us) ≡ andThen (first ts) (first us)
-        → cond b (Refused (t .1)) (first (ts ++ us)) ≡ andThen (cond b (Refused (t .1)) (first ts)) (first us)
-    by true h = refl
-    by false h = h
 
 module _ (a b : ℕ) (s u : Record) where
   abbrev j : Stamp

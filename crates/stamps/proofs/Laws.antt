@@ -1,15 +1,18 @@
--- A stored record in the parts that the code asks for, one after the other, and what the walks tell of the words that a stored name counts.
--- Assumes nothing.
-use Rattle.laws.proofs.Library.{_≡_, refl, sym, ap, _∙_, Bool, true, false, not, _&&_, List, [], ℕ, zero, _≤_, arith, eqb, length, take}
+-- A stored record in the parts that the code asks for, one after the other; what the walks tell of the words that a stored name counts; and what
+-- two stamps are refused for, test after test. Assumes nothing.
+use Rattle.laws.proofs.Library.{_≡_, refl, sym, ap, _∙_, Bool, true, false, cond, not, _&&_, List, [], _∷_, _++_, ℕ, _≤_, arith, eqb, length, take}
+use Rattle.laws.proofs.Library.{length-take-le}
 use Rattle.rules.specs.Limits.{Limits, narrow}
 use Rattle.rules.specs.Names.{any, rising, isName, below}
-use Rattle.rules.specs.Stamps.{pair, isNone, lawful, append, update, fork}
+use Rattle.rules.specs.Stamps.{Stamp, pair, isNone, lawful, append, update, fork, join}
 use Rattle.rules.specs.Stored.{wordsOf, stored, strsIn, held, sameWords, sameRecord, isStoredName, isStored, unlawful}
-use Rattle.rules.specs.Refusals.{first, long as tooLong}
-use Rattle.rules.specs.Values.{updated, forked, meeting}
+use Rattle.rules.specs.Refusals.{first, andThen, many, long as tooLong}
+use Rattle.rules.specs.Values.{given, updated, forked, joined, meeting}
 use Rattle.rules.specs.declared.Words.{Words}
 use Rattle.rules.specs.declared.Record.{Record}
-use Rattle.rules.specs.declared.Refusal.the-variants.{Unlawful}
+use Rattle.rules.specs.declared.Refusal.{Refusal}
+use Rattle.rules.specs.declared.Refusal.the-variants.{Unlawful, Many}
+use Rattle.rules.specs.declared.Answer.{Answer}
 use Rattle.rules.specs.declared.Answer.the-variants.{Done, Refused}
 use Rattle.laws.proofs.Tests.{and-left, and-right}
 use Rattle.laws.proofs.Lawful.{Named, name-parts}
@@ -76,13 +79,30 @@ module _ (L : Limits) (n : Words) (h : isStoredName L n ≡ true) where
   unfolding wordsOf
   stored-count = ap (λ (w : Words). w .count) (stored-name-is L n h)
 
-  pub stored-few : n .count ≤ L .strings
+  stored-few : n .count ≤ L .strings
   stored-few = omega (arith, stored-count, named .few)
 
 -- ---- the walks over the words that are counted
 
-pub lent-room : (c : ℕ) (w : List ℕ) → isStoredName narrow (record { count = c; words = w }) ≡ true → c ≤ length w
-lent-room c w h = let n : Words = record { count = c; words = w } in omega (arith, stored-few narrow n h, stored-full narrow n h)
+-- no more words are counted than there are, and so many are taken
+pub record Counted (n : Words) : Type 0 where
+  pub few : n .count ≤ narrow .strings
+  pub full : length (n .words) ≡ narrow .strings
+  pub inside : n .count ≤ length (n .words)
+  pub taken : n .count ≡ length (take (n .count) (n .words))
+
+stored-counted : (n : Words) → isStoredName narrow n ≡ true → Counted n
+stored-counted n h =
+    let few = stored-few narrow n h in
+    let full = stored-full narrow n h in
+    let inside : n .count ≤ length (n .words) = omega (arith, few, full) in
+    record { few = few; full = full; inside = inside; taken = sym (length-take-le _ _ inside) }
+
+-- of both names of a stored record
+pub both-counted : (r : Record) → isStored narrow r ≡ true → Counted (r .update) × Counted (r .id)
+both-counted r h =
+    let n = stored-names narrow r h in
+    (stored-counted (r .update) (n .0), stored-counted (r .id) (n .1))
 
 module _ (n : Words) where
   abbrev counted : List ℕ
@@ -116,3 +136,27 @@ module _ (L : Limits) (a b : Record) where
   pub second-unlawful : isStored L a ≡ true → isStored L b ≡ false → Refused Unlawful ≡ first (meeting L a b [])
   unfolding first unlawful
   second-unlawful p q = rw (p, q)
+
+-- ---- tests one after the other
+
+pub refusal-not-done : {r : Refusal} → Refused r ≡ Done → ⊥
+refusal-not-done e = let z : _≡_ {A = ℕ} 0 1 = cc in omega arith
+
+-- tests, and then more tests
+pub first-then : (ts us : List (Bool × Refusal)) → first (ts ++ us) ≡ andThen (first ts) (first us)
+unfolding first
+first-then [] us = refl
+first-then (t ∷ ts) us = by (t .0) (first-then ts us)
+  where
+    by : (b : Bool) → first (ts ++ us) ≡ andThen (first ts) (first us)
+        → cond b (Refused (t .1)) (first (ts ++ us)) ≡ andThen (cond b (Refused (t .1)) (first ts)) (first us)
+    by true h = refl
+    by false h = h
+
+-- of a join, what two that meet are refused for comes first
+pub joined-then : (L : Limits) (a b : Record)
+    → (let j : Stamp = join (held a) (held b) in joined L a b ≡ given L (andThen (first (meeting L a b [])) (first ((many L j, Many) ∷ []))) j)
+unfolding joined
+joined-then L a b =
+    let j : Stamp = join (held a) (held b) in
+    ap (λ (x : Answer). given L x j) (first-then (meeting L a b []) ((many L j, Many) ∷ []))

@@ -13,20 +13,13 @@ module _ (b : List ℕ) (k : ℕ) (p : Place) (e : placed b p ≡ Rattle.rules.
   unfolding readEntry
   told q t = ap (λ (x : Place). readPart narrow (placed b x)) (sym t) ∙ ap (readPart narrow) e
 
-sub-read : tie.Need-sub-read
-sub-read c =
-    let f = c .before .before .before in
-    subst (Inside (f .before .before .args .b .now)) (c .before .p2 .given .1) (f .find .ensures .1) .0
+-- the place that was found lies in the bundle
+module _ (p : tie.After-p2) where
+  abbrev found : tie.After-find
+  found = p .before .before
 
-part-read-start : tie.Need-part-read-start
-part-read-start c =
-    let f = c .before .before .before in
-    subst (Inside (f .before .before .args .b .now)) (c .before .p2 .given .1) (f .find .ensures .1) .0
-
-part-read-end : tie.Need-part-read-end
-part-read-end c =
-    let f = c .before .before .before in
-    subst (Inside (f .before .before .args .b .now)) (c .before .p2 .given .1) (f .find .ensures .1) .1
+  inside : Inside (found .before .before .args .b .now) (At (p .p2 .given .0 .0) (p .p2 .given .0 .1 .0))
+  inside = subst (Inside (found .before .before .args .b .now)) (p .p2 .given .1) (found .find .ensures .1)
 
 returns : tie.Need-returns
 returns c =
@@ -41,5 +34,5 @@ returns-2 c =
     c .read .ensures ∙ told (g .b .now) (g .k) (f .find .result) (f .find .ensures .0) (At _ _) (c .before .before .before .p2 .given .1)
 
 pub entry-spec : {M : Type 1} → statement M
-entry-spec = tie.close (tie.spec (λ c κs. search needs) (λ c. search needs) (λ c κs. search needs) (λ c. search needs) sub-read part-read-start
-    part-read-end (λ c κs. search needs) returns returns-2)
+entry-spec = tie.close (tie.spec (λ c κs. search needs) (λ c. search needs) (λ c κs. search needs) (λ c. search needs) (λ c. inside (c .before) .0)
+    (λ c. inside (c .before) .0) (λ c. inside (c .before) .1) (λ c κs. search needs) returns returns-2)

@@ -65,31 +65,29 @@ returns-2 c =
     let e = f .front .ensures in
     (refuses (l .before .before .before .args .b .now) (l .loop .at) (l .loop .left) (f .front .result) _ (c .enum-told .given .1) (e .0) ∙ l .loop .inv, e .1)
 
+-- there is an entry at `at`
+module _ (p : tie.After-p Inv-loop μ-loop) where
+  abbrev l : tie.At-loop Inv-loop μ-loop
+  l = p .before .before .before
+
+  abbrev b : List ℕ
+  b = l .before .before .before .args .b .now
+
+  at-front : Front b (l .loop .at) (At (p .p .given .0 .0) (p .p .given .0 .1 .0))
+  at-front = subst (Front b (l .loop .at)) (p .p .given .1) (p .before .before .front .ensures)
+
 returns-3 : tie.Need-returns-3 Inv-loop μ-loop
 returns-3 c =
     let p = c .before .before in
-    let f = p .before .before in
-    let l = f .before in
-    let b = l .before .before .before .args .b .now in
-    let e : Front b (l .loop .at) (At _ _) = subst (Front b (l .loop .at)) (p .p .given .1) (f .front .ensures) in
-    (found b (l .loop .at) _ _ e (l .loop .left) (omega (arith, c .if2 .taken)) ∙ l .loop .inv, e .1)
+    (found (b p) (l p .loop .at) _ _ (at-front p) (l p .loop .left) (omega (arith, c .if2 .taken)) ∙ l p .loop .inv, at-front p .1)
 
 loop-less : tie.Need-loop-less Inv-loop μ-loop
-loop-less c =
-    let p = c .before .before in
-    let f = p .before .before in
-    let l = f .before in
-    let b = l .before .before .before .args .b .now in
-    let e : Front b (l .loop .at) (At _ _) = subst (Front b (l .loop .at)) (p .p .given .1) (f .front .ensures) in
-    omega (arith, e .1 .0, e .1 .1, e .2)
+loop-less c = let e = at-front (c .before .before) in omega (arith, e .1 .0, e .1 .1, e .2)
 
 loop-again : tie.Need-loop-again Inv-loop μ-loop
 loop-again c =
     let p = c .before .before in
-    let f = p .before .before in
-    let l = f .before in
-    let b = l .before .before .before .args .b .now in
-    passes b (l .loop .at) _ _ (subst (Front b (l .loop .at)) (p .p .given .1) (f .front .ensures)) (l .loop .left) _ (omega (arith, c .if2 .left)) ∙ l .loop .inv
+    passes (b p) (l p .loop .at) _ _ (at-front p) (l p .loop .left) _ (omega (arith, c .if2 .left)) ∙ l p .loop .inv
 
 pub find-spec : {M : Type 1} → statement M
 find-spec = tie.close (tie.spec Inv-loop μ-loop returns loop-holds (λ c κs. search needs) (λ c. search needs) (λ c. search needs) returns-2 returns-3

@@ -1,6 +1,6 @@
 -- `joins::merged` meets its contract: the first words of both buffers are those of the join, and its record holds them where a name has room.
 -- Assumes nothing.
-use Rattle.laws.proofs.Library.{_≡_, _∙_, List, ℕ, arith, take, replicate, needs}
+use Rattle.laws.proofs.Library.{_∙_, List, ℕ, arith, replicate, needs}
 use Rattle.rules.specs.Stamps.{Stamp, join}
 use Rattle.rules.specs.Stored.{held}
 use Rattle.unions.specs.Unions.{joinedCounts, joinedUpdateIn, joinedIdIn}
@@ -31,24 +31,14 @@ module _ (c : tie.After-join) where
 
   tells : Told end (c .join .result) (c .join .last .1 .1 .1 .1 .0) (c .join .last .1 .1 .1 .1 .1 .0)
   tells =
+      let zeros : List ℕ = replicate 32 0 in
+      let p = u .counted .ensures .1 in
+      let q = i .counted2 .ensures .1 in
+      let r = v .counted3 .ensures .1 in
+      let s = j .counted4 .ensures .1 in
       records-joined (start .args .t1) (start .args .t2) (start .pre .0) (start .pre .1) (c .join .result) _ _
       (c .join .ensures .0 ∙ (λ n. joinedCounts (p n) (q n) (r n) (s n) zeros zeros)) (c .join .ensures .1 ∙ (λ n. joinedUpdateIn (p n) (q n) (r n) (s n) zeros zeros))
       (c .join .ensures .2 ∙ (λ n. joinedIdIn (p n) (q n) (r n) (s n) zeros zeros))
-    where
-      zeros : List ℕ
-      zeros = replicate 32 0
-
-      p : u .counted .result .now ≡ take (start .args .t1 .update .count) (start .args .t1 .update .words)
-      p = u .counted .ensures .1
-
-      q : i .counted2 .result .now ≡ take (start .args .t1 .id .count) (start .args .t1 .id .words)
-      q = i .counted2 .ensures .1
-
-      r : v .counted3 .result .now ≡ take (start .args .t2 .update .count) (start .args .t2 .update .words)
-      r = v .counted3 .ensures .1
-
-      s : j .counted4 .result .now ≡ take (start .args .t2 .id .count) (start .args .t2 .id .words)
-      s = j .counted4 .ensures .1
 
 returns : tie.Need-returns
 returns c =

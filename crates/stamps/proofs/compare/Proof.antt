@@ -1,7 +1,7 @@
 -- `stamps::compare` meets its contract: an unlawful stamp is refused, and of lawful ones the counted words tell the rest. Assumes nothing.
-use Rattle.laws.proofs.Library.{needs, not-true, not-false, _≡_, sym, ap, _∙_, [], arith}
+use Rattle.laws.proofs.Library.{needs, not-true, not-false, _≡_, sym, ap, _∙_, true, [], arith}
 use Rattle.rules.specs.Limits.{narrow}
-use Rattle.rules.specs.Stored.{held}
+use Rattle.rules.specs.Stored.{held, isStored}
 use Rattle.rules.specs.Refusals.{first}
 use Rattle.rules.specs.Values.{told, meeting, compared}
 use Rattle.rules.specs.declared.Record.{Record}
@@ -19,19 +19,15 @@ refuses : (a b : Record) → Refused Unlawful ≡ first (meeting narrow a b []) 
 unfolding compared
 refuses a b e = ap (λ (m : Answer). told m (Rattle.rules.specs.Stamps.compare (held a) (held b))) e
 
-returns : tie.Need-returns
-returns c =
-    let l = c .before in
-    let g = l .before .before .before .before .before .before .args in
-    refuses _ _ (first-unlawful narrow (g .t1) (g .t2) (sym (l .is-lawful-in .ensures) ∙ not-true _ (c .if1 .taken)))
+-- both are asked, one after the other
+first-lawful : (c : tie.Else1) → isStored narrow (c .before .before .before .before .before .before .before .args .t1) ≡ true
+first-lawful c = sym (c .before .is-lawful-in .ensures) ∙ not-false _ (c .if1 .left)
 
 returns-2 : tie.Need-returns-2
 returns-2 c =
     let m = c .before in
-    let e = m .before .before .before .before .before .before in
-    let l = e .before in
-    let g = l .before .before .before .before .before .before .args in
-    refuses _ _ (second-unlawful narrow (g .t1) (g .t2) (sym (l .is-lawful-in .ensures) ∙ not-false _ (e .if1 .left)) (sym (m .is-lawful-in2 .ensures) ∙ not-true _ (c .if2 .taken)))
+    refuses _ _
+    (second-unlawful narrow _ _ (first-lawful (m .before .before .before .before .before .before)) (sym (m .is-lawful-in2 .ensures) ∙ not-true _ (c .if2 .taken)))
 
 returns-3 : tie.Need-returns-3
 returns-3 c =
@@ -40,15 +36,12 @@ returns-3 c =
     let i = v .before .before .before .before in
     let u = i .before .before .before in
     let f = u .before .before .before .before in
-    let m = f .before in
-    let e = m .before .before .before .before .before .before in
-    let l = e .before in
-    let g = l .before .before .before .before .before .before .args in
     c .compare .ensures
     ∙ (λ n. compareWalk (u .counted .ensures .1 n) (i .counted2 .ensures .1 n) (v .counted3 .ensures .1 n) (j .counted4 .ensures .1 n))
-    ∙ compare-walk narrow (omega arith) (g .t1) (g .t2) (sym (l .is-lawful-in .ensures) ∙ not-false _ (e .if1 .left))
-    (sym (m .is-lawful-in2 .ensures) ∙ not-false _ (f .if2 .left))
+    ∙ compare-walk narrow (omega arith) _ _ (first-lawful (f .before .before .before .before .before .before .before))
+    (sym (f .before .is-lawful-in2 .ensures) ∙ not-false _ (f .if2 .left))
 
 pub compare-spec : {M : Type 1} → statement M
-compare-spec = tie.close (tie.spec (λ c κs. search needs) returns (λ c κs. search needs) returns-2 (λ c κs. search needs) (λ c κs. search needs)
-    (λ c κs. search needs) (λ c κs. search needs) (λ c κs. search needs) returns-3)
+compare-spec = tie.close (tie.spec (λ c κs. search needs)
+    (λ c. refuses _ _ (first-unlawful narrow _ _ (sym (c .before .is-lawful-in .ensures) ∙ not-true _ (c .if1 .taken)))) (λ c κs. search needs) returns-2
+    (λ c κs. search needs) (λ c κs. search needs) (λ c κs. search needs) (λ c κs. search needs) (λ c κs. search needs) returns-3)

@@ -1,25 +1,21 @@
 -- `stamps::meet` meets its contract: an unlawful stamp is refused, and of lawful ones the counted words tell the rest. Assumes nothing.
-use Rattle.laws.proofs.Library.{needs, not-true, not-false, sym, _∙_, arith}
+use Rattle.laws.proofs.Library.{needs, not-true, not-false, _≡_, sym, _∙_, true, arith}
 use Rattle.rules.specs.Limits.{narrow}
+use Rattle.rules.specs.Stored.{isStored}
 use Rattle.walks.specs.Walks.{meetWalk}
 use Rattle.walks.proofs.Meets.{meet-walk}
 use Rattle.stamps.proofs.Laws.{first-unlawful, second-unlawful}
 use Rattle.stamps.proofs.meet.Statement.{statement}
 use Rattle.stamps.proofs.meet.Tie as tie
 
-returns : tie.Need-returns
-returns c =
-    let l = c .before in
-    let g = l .before .before .before .before .before .before .args in
-    first-unlawful narrow (g .t1) (g .t2) (sym (l .is-lawful-in .ensures) ∙ not-true _ (c .if1 .taken))
+-- both are asked, one after the other
+first-lawful : (c : tie.Else1) → isStored narrow (c .before .before .before .before .before .before .before .args .t1) ≡ true
+first-lawful c = sym (c .before .is-lawful-in .ensures) ∙ not-false _ (c .if1 .left)
 
 returns-2 : tie.Need-returns-2
 returns-2 c =
     let m = c .before in
-    let e = m .before .before .before .before .before .before in
-    let l = e .before in
-    let g = l .before .before .before .before .before .before .args in
-    second-unlawful narrow (g .t1) (g .t2) (sym (l .is-lawful-in .ensures) ∙ not-false _ (e .if1 .left)) (sym (m .is-lawful-in2 .ensures) ∙ not-true _ (c .if2 .taken))
+    second-unlawful narrow _ _ (first-lawful (m .before .before .before .before .before .before)) (sym (m .is-lawful-in2 .ensures) ∙ not-true _ (c .if2 .taken))
 
 returns-3 : tie.Need-returns-3
 returns-3 c =
@@ -28,15 +24,12 @@ returns-3 c =
     let i = v .before .before .before .before in
     let u = i .before .before .before in
     let f = u .before .before .before .before in
-    let m = f .before in
-    let e = m .before .before .before .before .before .before in
-    let l = e .before in
-    let g = l .before .before .before .before .before .before .args in
     c .meet .ensures
     ∙ (λ n. meetWalk (u .counted .ensures .1 n) (i .counted2 .ensures .1 n) (v .counted3 .ensures .1 n) (j .counted4 .ensures .1 n))
-    ∙ meet-walk narrow (omega arith) (g .t1) (g .t2) (sym (l .is-lawful-in .ensures) ∙ not-false _ (e .if1 .left))
-    (sym (m .is-lawful-in2 .ensures) ∙ not-false _ (f .if2 .left))
+    ∙ meet-walk narrow (omega arith) _ _ (first-lawful (f .before .before .before .before .before .before .before))
+    (sym (f .before .is-lawful-in2 .ensures) ∙ not-false _ (f .if2 .left))
 
 pub meet-spec : {M : Type 1} → statement M
-meet-spec = tie.close (tie.spec (λ c κs. search needs) returns (λ c κs. search needs) returns-2 (λ c κs. search needs) (λ c κs. search needs)
-    (λ c κs. search needs) (λ c κs. search needs) (λ c κs. search needs) returns-3)
+meet-spec = tie.close (tie.spec (λ c κs. search needs)
+    (λ c. first-unlawful narrow _ _ (sym (c .before .is-lawful-in .ensures) ∙ not-true _ (c .if1 .taken))) (λ c κs. search needs) returns-2
+    (λ c κs. search needs) (λ c κs. search needs) (λ c κs. search needs) (λ c κs. search needs) (λ c κs. search needs) returns-3)
