@@ -18,8 +18,9 @@ use denote.Triple.Entry.{Args, Res}
 use denote.Triple.Clauses.{Ended, Clauses, AtExit, atExit, closing}
 use denote.Triple.Spec.{Meets}
 use denote.Triple.Weaken.{weaken}
-use Rattle.frames.proofs.Rows.{Plainly}
+use Rattle.frames.proofs.Rows.{Plainly, Ins, valued}
 use Rattle.frames.proofs.Lent.{of, params, Says, lent, Walk, lends, Tells, shown, Look, looks}
+use Rattle.frames.proofs.Values.{Value, values}
 
 -- what a contract ensures, of the arguments, the result and the arguments at exit
 abbrev pub Ensures : {M : Type 1} (𝓤 : URA M) → Ended → Type 2
@@ -58,3 +59,12 @@ module _ (P : Plainly) (Ps : List Plainly) (Q : Plainly) {M : Type 1} (𝓤 : UR
       → Meets 𝓤 H A (shown P Ps Q .signature) (WpFn 𝓤 H (𝓣 .C) (𝓣 .Λ) f) (closing 𝓤 H A (shown P Ps Q) (claiming 𝓤 (shown P Ps Q) E))
   looks-as φ same walk E so = claims 𝓤 H A W 𝓣 f (shown P Ps Q) (λ κs a r e. φ κs (now (a .0)) (a .1) r) E so
       (looks P Ps Q 𝓤 H A φ W 𝓣 f rest same walk)
+
+-- and of one of plain values
+pub values-as : (Ps : List Plainly) (Q : Plainly) {M : Type 1} (𝓤 : URA M) (H : Heap 𝓤) (A : Atoms 𝓤) (W : Given 𝓤 H A) (𝓣 : Tables 𝓤 H) (f : Fn)
+    (rest : List Local) (g : Ins 0 tt Ps → Q .row .Denot) → f .locals ≡ of (Q .ty) ∷ (params Ps ++ rest) → Value Ps Q 𝓤 H A g W 𝓣 f
+    → (E : Ensures 𝓤 (valued Ps Q)) → ((κs : Lfts 0) (a : Args (valued Ps Q .signature) κs) (r : Q .row .Denot) (e : AtExit (valued Ps Q) κs) → r ≡ g a
+    → ent 𝓤 (emp 𝓤) (E κs a tt r e))
+    → Meets 𝓤 H A (valued Ps Q .signature) (WpFn 𝓤 H (𝓣 .C) (𝓣 .Λ) f) (closing 𝓤 H A (valued Ps Q) (claiming 𝓤 (valued Ps Q) E))
+values-as Ps Q 𝓤 H A W 𝓣 f rest g same walk E so =
+    claims 𝓤 H A W 𝓣 f (valued Ps Q) (λ κs a r e. r ≡ g a) E so (values Ps Q 𝓤 H A g W 𝓣 f rest same walk)

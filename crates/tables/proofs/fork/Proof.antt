@@ -49,4 +49,7 @@ fork-spec 𝓤 H 𝓜 𝓖 𝓡 =
     (cited 𝓤 H _ 𝓜 𝓡 code.env pass-def.name pass-def.routine code.calls-tables·lowest-absent (pass-thm.met 𝓤 H 𝓜 𝓖 𝓡))
     (cited 𝓤 H _ 𝓜 𝓡 code.env half-def.name half-def.routine code.calls-tables·fork-at (half-thm.met 𝓤 H 𝓜 𝓖 𝓡)))
     (λ κs a. claim.clauses 𝓤 H (𝓖 .A) (𝓜 .mem) (𝓡 .run) κs a .ensures)
-    (λ κs a r e h. factI 𝓤 _ (emp 𝓤) (h .0 ∙ fork-tied (now (a .0)) (a .1 .0) .0, h .1 ∙ fork-tied (now (a .0)) (a .1 .0) .1)))
+    (λ κs a r e h. let t = fork-tied (now (a .0)) (a .1 .0) in factI 𝓤 _ (emp 𝓤) (
+      h .0 ∙ t .0,
+      h .1 ∙ t .1,
+    )))

@@ -103,4 +103,7 @@ fresh-spec 𝓤 H 𝓜 𝓖 𝓡 =
     (cited 𝓤 H _ 𝓜 𝓡 code.env slot-def.name slot-def.routine code.calls-slots·fresh-slot (slot-thm.met 𝓤 H 𝓜 𝓖 𝓡))
     (cited 𝓤 H _ 𝓜 𝓡 code.env gate-def.name gate-def.routine code.calls-slots·gate (gate-thm.met 𝓤 H 𝓜 𝓖 𝓡)))
     (λ κs a. claim.clauses 𝓤 H (𝓖 .A) (𝓜 .mem) (𝓡 .run) κs a .ensures)
-    (λ κs a r e h. factI 𝓤 _ (emp 𝓤) (h .0 ∙ fresh-is (now (a .0)) .0, h .1 ∙ fresh-is (now (a .0)) .1)))
+    (λ κs a r e h. let t = fresh-is (now (a .0)) in factI 𝓤 _ (emp 𝓤) (
+      h .0 ∙ t .0,
+      h .1 ∙ t .1,
+    )))

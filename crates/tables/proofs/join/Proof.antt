@@ -23,4 +23,7 @@ join-spec 𝓤 H 𝓜 𝓖 𝓡 =
     (cited 𝓤 H _ 𝓜 𝓡 code.env gate-def.name gate-def.routine code.calls-slots·gate (gate-thm.met 𝓤 H 𝓜 𝓖 𝓡))
     (cited 𝓤 H _ 𝓜 𝓡 code.env rule-def.name rule-def.routine code.calls-slots·join-rule (rule-thm.met 𝓤 H 𝓜 𝓖 𝓡)))
     (λ κs a. claim.clauses 𝓤 H (𝓖 .A) (𝓜 .mem) (𝓡 .run) κs a .ensures)
-    (λ κs a r e h. let t = join-tied (now (a .0)) (a .1 .0) (a .1 .1 .0) in factI 𝓤 _ (emp 𝓤) (h .0 ∙ t .0, h .1 ∙ t .1)))
+    (λ κs a r e h. let t = join-tied (now (a .0)) (a .1 .0) (a .1 .1 .0) in factI 𝓤 _ (emp 𝓤) (
+      h .0 ∙ t .0,
+      h .1 ∙ t .1,
+    )))

@@ -1,10 +1,11 @@
 -- `traces::made_fresh` meets its contract: a walk of its MIR. The table's local is opened as a run, which `tables::fresh` fills. Assumes nothing.
 use Rattle.frames.proofs.Walk.{_≡_, refl, sym, subst, _∙_, List, [], _∷_, ℕ, lit<, length, URA, fullShare, Heap, Tables, Atoms, fmOf, givenOf, tables, tablesOf, Given}
 use Rattle.frames.proofs.Walk.{‵, rewrite, _$_, !, by, Room, look, and-then, no-more, lit, of-opd, returns, Triple, entered, cited, envOf, var, sets, leaves, number}
-use Rattle.frames.proofs.Walk.{Says, Changes, hands}
+use Rattle.frames.proofs.Walk.{Says, Changes, hands, factI, emp}
 use Rattle.frames.proofs.Arrays.{unrolls, rolls, var₁}
 use Rattle.frames.proofs.Rows.{typed}
-use Rattle.frames.proofs.Values.{Value, values}
+use Rattle.frames.proofs.Values.{Value}
+use Rattle.frames.proofs.Claims.{values-as}
 use base.Fml.{fat}
 use prog.Wp.{spotOf}
 use types.Part.{agg}
@@ -18,6 +19,7 @@ use Rattle.tables.proofs.Slots.{item}
 use Rattle.tables.proofs.fresh.Symbol as fresh-def
 use Rattle.tables.proofs.fresh.Met as fresh-thm
 use Rattle.traces.proofs.Plain.{table}
+use Rattle.traces.proofs.made_fresh as claim
 use Rattle.traces.proofs.made_fresh.Key.{name as #made-fresh}
 use Rattle.traces.proofs.made_fresh.Statement as stated
 use Rattle.traces.proofs.made_fresh.Code as code
@@ -51,6 +53,7 @@ pub made-fresh-spec : {M : Type 1} → stated.statement M
 unfolding code.routine tablesOf
 made-fresh-spec 𝓤 H 𝓜 𝓖 𝓡 =
     entered 𝓤 H _ (tables 𝓤 H 𝓜 𝓡 code.env .C) (tables 𝓤 H 𝓜 𝓡 code.env .Λ) #made-fresh code.function (code.unfolded 𝓤 H 𝓜 𝓡)
-    (values (table ∷ []) table 𝓤 H (𝓖 .A) (λ _. freshTable narrow records) (givenOf 𝓤 H 𝓜 𝓖) (tablesOf 𝓤 H 𝓜 (tables 𝓤 H 𝓜 𝓡 code.env)) code.function _ refl
+    (values-as (table ∷ []) table 𝓤 H (𝓖 .A) (givenOf 𝓤 H 𝓜 𝓖) (tablesOf 𝓤 H 𝓜 (tables 𝓤 H 𝓜 𝓡 code.env)) code.function _ (λ _. freshTable narrow records) refl
     (walk 𝓤 H (𝓖 .A) (givenOf 𝓤 H 𝓜 𝓖) (tablesOf 𝓤 H 𝓜 (tables 𝓤 H 𝓜 𝓡 code.env))
-    (cited 𝓤 H _ 𝓜 𝓡 code.env fresh-def.name fresh-def.routine code.calls-tables·fresh (fresh-thm.met 𝓤 H 𝓜 𝓖 𝓡))))
+    (cited 𝓤 H _ 𝓜 𝓡 code.env fresh-def.name fresh-def.routine code.calls-tables·fresh (fresh-thm.met 𝓤 H 𝓜 𝓖 𝓡)))
+    (λ κs a. claim.clauses 𝓤 H (𝓖 .A) (𝓜 .mem) (𝓡 .run) κs a .ensures) (λ κs a r e h. factI 𝓤 _ (emp 𝓤) h))

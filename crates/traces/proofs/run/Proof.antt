@@ -4,8 +4,8 @@ use Rattle.frames.proofs.Walk.{_≡_, refl, sym, ap, subst, _∙_, List, [], _�
 use Rattle.frames.proofs.Walk.{_+_, _-_, _^_, ltb, lit<, arith, ltb-true, ltb-false, length, w64, Val, vint}
 use Rattle.frames.proofs.Walk.{URA, fullShare, Heap, Tables, Atoms, SProp, Fml, fmOf, givenOf, tables, tablesOf, Given, ‵, Sq, runs, atRet, rewrite, done, _$_}
 use Rattle.frames.proofs.Walk.{ !, by, row, Room, look, and-then, no-more, lit, of-opd, bin, returns, Triple, entered, cited, Blocks, envOf}
-use Rattle.frames.proofs.Walk.{deaths, frame-of, var, piece, sets, leaves, relends, number, Ins, Says, Closes, Walk, lends, Tells, Answers, asks, Changes, hands, var₂}
-use Rattle.frames.proofs.Walk.{Loop, Turn, whiles, tests, sets-last, turns-to, forgets}
+use Rattle.frames.proofs.Walk.{deaths, frame-of, var, piece, sets, leaves, relends, number, Ins, Says, Closes, Walk, lends-as, Tells, Answers, asks, Changes, hands}
+use Rattle.frames.proofs.Walk.{var₂, Loop, Turn, whiles, tests, sets-last, turns-to, forgets, now, factI, emp}
 use Rattle.frames.proofs.Arrays.{unrolls, rolls, var₁, piece₁}
 use Rattle.frames.proofs.Rows.{Good, typed}
 use Rattle.laws.proofs.Library.{_*_, _/_}
@@ -28,7 +28,7 @@ use Rattle.lines.proofs.Command as C
 use Rattle.lines.proofs.Command.Laws as C′
 use Rattle.tables.proofs.Asks.{holds-true, holds-false}
 use Rattle.tables.proofs.Slots.{item}
-use Rattle.traces.specs.Serves.{command as said-by, ranTable, ranIn}
+use Rattle.traces.specs.Serves.{command as said-by}
 use Rattle.traces.specs.Inner.{commandAt, putAt}
 use Rattle.traces.proofs.Plain.{command, table}
 use Rattle.traces.proofs.Turns.{runs as comes, runs-step, runs-end, runs-all}
@@ -38,12 +38,13 @@ use Rattle.traces.proofs.serve.Symbol as serve-def
 use Rattle.traces.proofs.serve.Met as serve-thm
 use Rattle.traces.proofs.put_at.Symbol as put-def
 use Rattle.traces.proofs.put_at.Met as put-thm
+use Rattle.traces.proofs.run as claim
 use Rattle.traces.proofs.run.Key.{name as #run}
 use Rattle.traces.proofs.run.Statement as stated
 use Rattle.traces.proofs.run.Code as code
 
 abbrev said : Says number (table ∷ []) table
-said κs cs a r ds = (r ≡ ranTable (a .0) cs) × (ds ≡ ranIn (a .0) cs)
+said κs cs a r ds = (r ≡ comes (length cs / 3 - 0) (3 * 0) (a .0) cs .0) × (ds ≡ comes (length cs / 3 - 0) (3 * 0) (a .0) cs .1)
 
 abbrev found : Tells number (number ∷ []) command
 found κs cs a r = r ≡ commandAt cs (a .0)
@@ -127,7 +128,7 @@ module _ {M : Type 1} (𝓤 : URA M) (H : Heap 𝓤) (A : Atoms 𝓤) (W : Given
         turns-to ! here t next (omega arith) $ forgets ! (6 ∷ 7 ∷ 9 ∷ 10 ∷ 11 ∷ 12 ∷ 13 ∷ 14 ∷ 15 ∷ 16 ∷ []) refl $
         rewrite ! 1 (λ (m : ℕ). ‵ (fat fullShare (spotOf 𝓤 H (here .env) 1 .0) (spotOf 𝓤 H (here .env) 1 .1) 0 (sliceVal (b, o) m))) (sym same) refl $ done !))))
         (λ no. let h : length cs / 3 ≤ t .i = ltb-false _ _ (holds-false (ltb (t .i) (length cs / 3)) no) in
-        let all = sym (runs-end (length cs / 3) (t .i) (t .zs) (t .ds) h) ∙ t .kept ∙ runs-all ys cs in
+        let all = sym (runs-end (length cs / 3) (t .i) (t .zs) (t .ds) h) ∙ t .kept in
         rolls ! item 32 refl tt (t .zs) 3 l₃ (t .len) refl (λ is.
         sets ! (of-opd ! (var ! refl)) refl (typed table W (t .zs) (table .val (t .zs)) is) $ returns ! (look ! 0 refl) $ leaves ! refl refl $
         by ! (closes (t .ds) (t .zs) (t .same) (ap (λ (r : Table × List ℕ). r .0) all, ap (λ (r : Table × List ℕ). r .1) all) is)))
@@ -146,8 +147,13 @@ pub run-spec : {M : Type 1} → stated.statement M
 unfolding code.routine tablesOf
 run-spec 𝓤 H 𝓜 𝓖 𝓡 =
     entered 𝓤 H _ (tables 𝓤 H 𝓜 𝓡 code.env .C) (tables 𝓤 H 𝓜 𝓡 code.env .Λ) #run code.function (code.unfolded 𝓤 H 𝓜 𝓡)
-    (lends number (table ∷ []) table 𝓤 H (𝓖 .A) said (givenOf 𝓤 H 𝓜 𝓖) (tablesOf 𝓤 H 𝓜 (tables 𝓤 H 𝓜 𝓡 code.env)) code.function _ refl
+    (lends-as number (table ∷ []) table 𝓤 H (𝓖 .A) (givenOf 𝓤 H 𝓜 𝓖) (tablesOf 𝓤 H 𝓜 (tables 𝓤 H 𝓜 𝓡 code.env)) code.function _ said refl
     (walk 𝓤 H (𝓖 .A) (givenOf 𝓤 H 𝓜 𝓖) (tablesOf 𝓤 H 𝓜 (tables 𝓤 H 𝓜 𝓡 code.env))
     (cited 𝓤 H _ 𝓜 𝓡 code.env at-def.name at-def.routine code.calls-traces·command-at (at-thm.met 𝓤 H 𝓜 𝓖 𝓡))
     (cited 𝓤 H _ 𝓜 𝓡 code.env serve-def.name serve-def.routine code.calls-traces·serve (serve-thm.met 𝓤 H 𝓜 𝓖 𝓡))
-    (cited 𝓤 H _ 𝓜 𝓡 code.env put-def.name put-def.routine code.calls-traces·put-at (put-thm.met 𝓤 H 𝓜 𝓖 𝓡))))
+    (cited 𝓤 H _ 𝓜 𝓡 code.env put-def.name put-def.routine code.calls-traces·put-at (put-thm.met 𝓤 H 𝓜 𝓖 𝓡)))
+    (λ κs a. claim.clauses 𝓤 H (𝓖 .A) (𝓜 .mem) (𝓡 .run) κs a .ensures)
+    (λ κs a r e h. let all = runs-all (a .1 .0) (now (a .0)) in factI 𝓤 _ (emp 𝓤) (
+      h .0 ∙ ap (λ (r : Table × List ℕ). r .0) all,
+      h .1 ∙ ap (λ (r : Table × List ℕ). r .1) all,
+    )))

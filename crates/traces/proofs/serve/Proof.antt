@@ -1,25 +1,22 @@
 -- `traces::serve` meets its contract: a walk of its MIR, which hands the run on twice: as a `&` to `tell`, as a `&mut` to `change`. Assumes nothing.
 use Rattle.frames.proofs.Walk.{_≡_, refl, sym, ap, _∙_, [], _∷_, ℕ, URA, fullShare, Heap, Tables, Atoms, fmOf, givenOf, tables, tablesOf, Given, _$_, !, by}
-use Rattle.frames.proofs.Walk.{look, and-then, no-more, returns, Triple, entered, cited, leaves, relends, number, Says, Walk, lends, Tells, var₂, Answers, asks}
-use Rattle.frames.proofs.Walk.{Changes, hands}
-use Rattle.rules.specs.Limits.{narrow}
-use Rattle.rules.specs.Traces.{lineTable}
-use Rattle.lines.specs.Runs.{meant, answerNumber}
+use Rattle.frames.proofs.Walk.{look, and-then, no-more, returns, Triple, entered, cited, leaves, relends, number, Says, Walk, lends-as, Tells, var₂, Answers, asks}
+use Rattle.frames.proofs.Walk.{Changes, hands, now, factI, emp}
 use Rattle.tables.proofs.Slots.{item}
-use Rattle.traces.specs.Serves.{command}
 use Rattle.traces.specs.Inner.{toldNumber, changedNumber, changedTable}
 use Rattle.traces.proofs.Tied.{number-tied, table-tied}
 use Rattle.traces.proofs.tell.Symbol as tell-def
 use Rattle.traces.proofs.tell.Met as tell-thm
 use Rattle.traces.proofs.change.Symbol as change-def
 use Rattle.traces.proofs.change.Met as change-thm
+use Rattle.traces.proofs.serve as claim
 use Rattle.traces.proofs.serve.Key.{name as #serve}
 use Rattle.traces.proofs.serve.Statement as stated
 use Rattle.traces.proofs.serve.Code as code
 
 abbrev said : Says item (number ∷ number ∷ number ∷ []) number
-said κs ys a r zs = (r ≡ answerNumber narrow ys (meant (command (a .0) (a .1 .0) (a .1 .1 .0)))) ×
-    (zs ≡ lineTable narrow ys (meant (command (a .0) (a .1 .0) (a .1 .1 .0))))
+said κs ys a r zs = (r ≡ changedNumber ys (a .0) (a .1 .0) (a .1 .1 .0) (toldNumber ys (a .0) (a .1 .0) (a .1 .1 .0))) ×
+    (zs ≡ changedTable ys (a .0) (a .1 .0) (a .1 .1 .0))
 
 abbrev told : Tells item (number ∷ number ∷ number ∷ []) number
 told κs ys a r = r ≡ toldNumber ys (a .0) (a .1 .0) (a .1 .1 .0)
@@ -44,13 +41,18 @@ module _ {M : Type 1} (𝓤 : URA M) (H : Heap 𝓤) (A : Atoms 𝓤) (W : Given
       (and-then ! (var₂ ! refl) (and-then ! (var₂ ! refl) (no-more !))))))
       refl (λ _. refl) (λ _ r zs same done is′.
       returns ! (look ! 0 refl) $ leaves ! refl refl $
-      by ! (closes zs r same (done .0 ∙ ap (λ (n : ℕ). changedNumber ys op i j n) at ∙ number-tied ys i j op, done .1 ∙ table-tied ys i j op) is′)))
+      by ! (closes zs r same (done .0 ∙ ap (λ (n : ℕ). changedNumber ys op i j n) at, done .1) is′)))
 
 pub serve-spec : {M : Type 1} → stated.statement M
 unfolding code.routine tablesOf
 serve-spec 𝓤 H 𝓜 𝓖 𝓡 =
     entered 𝓤 H _ (tables 𝓤 H 𝓜 𝓡 code.env .C) (tables 𝓤 H 𝓜 𝓡 code.env .Λ) #serve code.function (code.unfolded 𝓤 H 𝓜 𝓡)
-    (lends item (number ∷ number ∷ number ∷ []) number 𝓤 H (𝓖 .A) said (givenOf 𝓤 H 𝓜 𝓖) (tablesOf 𝓤 H 𝓜 (tables 𝓤 H 𝓜 𝓡 code.env)) code.function _ refl
+    (lends-as item (number ∷ number ∷ number ∷ []) number 𝓤 H (𝓖 .A) (givenOf 𝓤 H 𝓜 𝓖) (tablesOf 𝓤 H 𝓜 (tables 𝓤 H 𝓜 𝓡 code.env)) code.function _ said refl
     (walk 𝓤 H (𝓖 .A) (givenOf 𝓤 H 𝓜 𝓖) (tablesOf 𝓤 H 𝓜 (tables 𝓤 H 𝓜 𝓡 code.env))
     (cited 𝓤 H _ 𝓜 𝓡 code.env tell-def.name tell-def.routine code.calls-traces·tell (tell-thm.met 𝓤 H 𝓜 𝓖 𝓡))
-    (cited 𝓤 H _ 𝓜 𝓡 code.env change-def.name change-def.routine code.calls-traces·change (change-thm.met 𝓤 H 𝓜 𝓖 𝓡))))
+    (cited 𝓤 H _ 𝓜 𝓡 code.env change-def.name change-def.routine code.calls-traces·change (change-thm.met 𝓤 H 𝓜 𝓖 𝓡)))
+    (λ κs a. claim.clauses 𝓤 H (𝓖 .A) (𝓜 .mem) (𝓡 .run) κs a .ensures)
+    (λ κs a r e h. factI 𝓤 _ (emp 𝓤) (
+      h .0 ∙ number-tied (now (a .0)) (a .1 .1 .0) (a .1 .1 .1 .0) (a .1 .0),
+      h .1 ∙ table-tied (now (a .0)) (a .1 .1 .0) (a .1 .1 .1 .0) (a .1 .0),
+    )))

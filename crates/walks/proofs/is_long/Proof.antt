@@ -16,14 +16,14 @@ returns c =
     let l = c .before .before .before in
     let n = l .before .args .n .now in
     let i = l .loop .i in
-    sym (long-turn n i (omega arith) ∙ ap (λ (b : Bool). b || isLong (drop (i + 1) n)) (eq-eqb (getD n i 0 % 64) 24 (c .if1 .taken))) ∙ l .loop .inv
+    sym (long-turn n i (omega arith) ∙ ap (λ (b : Bool). b || isLong (drop (i + 1) n)) (eq-eqb (getD n i 0 % 64) 24 (omega (arith, c .if1 .taken)))) ∙ l .loop .inv
 
 loop-again : tie.Need-loop-again Inv-loop μ-loop
 loop-again c =
     let l = c .before .before .before in
     let n = l .before .args .n .now in
     let i = l .loop .i in
-    sym (long-turn n i (omega arith) ∙ ap (λ (b : Bool). b || isLong (drop (i + 1) n)) (ne-eqb (getD n i 0 % 64) 24 (c .if1 .left))) ∙ l .loop .inv
+    sym (long-turn n i (omega arith) ∙ ap (λ (b : Bool). b || isLong (drop (i + 1) n)) (ne-eqb (getD n i 0 % 64) 24 (λ e. c .if1 .left (omega (arith, e))))) ∙ l .loop .inv
 
 returns-2 : tie.Need-returns-2 Inv-loop μ-loop
 returns-2 c =
