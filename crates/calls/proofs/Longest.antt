@@ -1,5 +1,5 @@
 -- The longest string of a name, a word at a time; no string is longer than a word's length field tells. Assumes nothing.
-use Rattle.laws.proofs.Library.{_≡_, refl, sym, ap, _∙_, List, [], _∷_, map, ℕ, _+_, _%_, _<_, _≤_, max, arith, length, getD, drop}
+use Rattle.laws.proofs.Library.{_≡_, ap, _∙_, List, [], _∷_, map, ℕ, _+_, _%_, _<_, _≤_, max, arith, length, getD, drop}
 use Rattle.rules.specs.Strings.{strOf}
 use Rattle.rules.specs.Room.{longestOf}
 use Rattle.laws.proofs.Words.{str-length}

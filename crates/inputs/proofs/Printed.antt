@@ -1,6 +1,6 @@
 -- All pieces together print what the rules say of the whole input, however it was cut. What a piece leaves is what the next one starts from, so the
 -- pieces' answers are the answers to all lines, one after the other. Assumes nothing.
-use Rattle.laws.proofs.Library.{_≡_, refl, sym, ap, ap₂, _∙_, Bool, true, false, cond, List, [], _∷_, _++_, ℕ, eqb}
+use Rattle.laws.proofs.Library.{_≡_, refl, ap, _∙_, Bool, true, false, cond, List, [], _∷_, _++_, eqb}
 use Rattle.rules.specs.Limits.{narrow, records}
 use Rattle.rules.specs.Tables.{freshTable}
 use Rattle.rules.specs.Traces.{Text, traced}

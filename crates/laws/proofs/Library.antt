@@ -4,9 +4,9 @@ pub use mathlib.Core.Logic.{_↔_, _⊎_, inl, inr, ⊎-elim}
 pub use mathlib.Core.Bool.{Bool, Bool·beq, _&&_, _||_, and-assoc, and-false, and-true, cond, false, not, or-true, true}
 pub use mathlib.Core.Option.{Option, Option·none-ne-some, Option·some-injective, none, some}
 pub use mathlib.Core.List.{List, [], _++_, _∷_, append-assoc, append-nil, concat-eq-append, dropLast, eq-nil-or-concat, map, map-append, reverse, reverseAux}
-pub use Prim.Native.Nat.{_%_, _*_, _+_, _-_, _/_, _<_, _^_, _≤_, max, min, suc, suc-le-suc, zero, zero-le, ℕ}
+pub use Prim.Native.Nat.{_%_, _*_, _+_, _-_, _/_, _<_, _^_, _≤_, max, min, suc, zero, zero-le, ℕ}
 pub use native.Mathlib.Nat.{add-assoc, add-mod, add-mul, add-sub-cancel-left, add-suc, add-zero, div-lt-iff-lt-mul, le-mul-of-pos-right, le-of-lt}
-pub use native.Mathlib.Nat.{le-of-suc-le-suc, le-trans, lt-of-not-le, mod-eq-of-lt, mod-lt, mul-assoc, mul-comm, mul-le-mul-right, mul-mod-left}
+pub use native.Mathlib.Nat.{le-of-suc-le-suc, le-trans, lt-of-not-le, mod-eq-of-lt, mod-lt, mul-assoc, mul-le-mul-right, mul-mod-left}
 pub use native.Mathlib.Nat.{not-suc-le-zero, pow-suc, sub-zero, suc-add, suc-mul, zero-add, zero-div, zero-mul}
 pub use native.Mathlib.Numerals.{add-one, add-two}
 pub use native.Mathlib.Omega.{arith}

@@ -1,7 +1,7 @@
 -- Prefix and order by the leading digits that two words share, where the words stand in order: the lower one's string is a prefix of the
 -- other's exactly when they share as many digits as it has, since the longer of two such strings has the greater word. Assumes nothing.
-use Rattle.laws.proofs.Library.{_≡_, refl, sym, ap, _∙_, subst, Bool, true, false, not, _&&_, [], _∷_, ℕ, suc, _%_, _≤_, _<_, arith, le-of-lt, leb-true}
-use Rattle.laws.proofs.Library.{leb-false, ltb-true, ltb-false, le-leb, lt-ltb, le-ltb, leb, ltb}
+use Rattle.laws.proofs.Library.{_≡_, refl, sym, ap, _∙_, Bool, true, false, not, _&&_, [], _∷_, ℕ, suc, _%_, _≤_, _<_, arith, le-of-lt, leb-true}
+use Rattle.laws.proofs.Library.{leb-false, ltb-true, le-leb, lt-ltb, leb, ltb}
 use Rattle.rules.specs.Strings.{Str, prefix, less, common, field, strOf, isWord}
 use Rattle.laws.proofs.Tests.{no, clash, not-true, and-both}
 use Rattle.laws.proofs.Rising.{less-apart}

@@ -1,6 +1,6 @@
 -- `inputs::feed` meets its contract: with room for a command and a line for each byte, what gathering, running and printing leave is handed from the
 -- one to the next (`fed-all`); without it nothing is touched. Assumes nothing.
-use Rattle.laws.proofs.Library.{needs, _≡_, refl, sym, _∙_, Bool, true, false, not, List, _++_, arith, ℕ, _*_, _≤_, length, take, drop, length-append}
+use Rattle.laws.proofs.Library.{needs, _≡_, sym, _∙_, Bool, true, false, not, List, _++_, arith, ℕ, _*_, _≤_, length, take, drop, length-append}
 use Rattle.laws.proofs.Library.{length-take, length-take-le}
 use Rattle.laws.proofs.Tests.{no}
 use Rattle.inputs.proofs.Feeds.{fed-none, fed-all, gathered-is, room-is}

@@ -1,5 +1,5 @@
 -- `inputs::has_room` meets its contract: each test is one of the definition's. Assumes nothing.
-use Rattle.laws.proofs.Library.{_≡_, refl, le-leb, lt-leb, arith, _*_}
+use Rattle.laws.proofs.Library.{_≡_, le-leb, lt-leb, arith, _*_}
 use Rattle.inputs.proofs.has_room.Statement.{statement}
 use Rattle.inputs.proofs.has_room.Tie as tie
 

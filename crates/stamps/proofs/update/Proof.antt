@@ -1,5 +1,5 @@
 -- `stamps::update` meets its contract: a stored id is its own stored shape. Assumes nothing.
-use Rattle.laws.proofs.Library.{needs, _≡_, sym, ap, _∙_, true, false}
+use Rattle.laws.proofs.Library.{needs, _≡_, sym, ap, _∙_, false}
 use Rattle.rules.specs.Limits.{Limits, narrow}
 use Rattle.rules.specs.Stored.{isStored, unlawful, blank}
 use Rattle.rules.specs.Refusals.{first}

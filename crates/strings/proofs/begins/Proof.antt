@@ -1,5 +1,5 @@
 -- `strings::begins` meets its contract: what `shared` counts is held against the length. Assumes nothing.
-use Rattle.laws.proofs.Library.{needs, ap, ℕ, _%_, leb}
+use Rattle.laws.proofs.Library.{needs, ap, _%_, leb}
 use Rattle.strings.specs.Words.{begins}
 use Rattle.strings.proofs.begins.Statement.{statement}
 use Rattle.strings.proofs.begins.Tie as tie

@@ -1,6 +1,6 @@
 -- `calls::lengths::longest` meets its contract: at each turn the longer of what was seen and of what is left is the longest of all.
 -- Assumes nothing.
-use Rattle.laws.proofs.Library.{needs, _≡_, refl, sym, ap, _∙_, ⊎-elim, arith, _+_, _-_, _%_, max, length, getD, drop}
+use Rattle.laws.proofs.Library.{needs, _≡_, _∙_, ⊎-elim, arith, _+_, _-_, _%_, max, length, drop}
 use Rattle.calls.proofs.Longest.{longestIn, longest-turn, longest-end}
 use Rattle.calls.proofs.lengths.longest.Statement.{statement}
 use Rattle.calls.proofs.lengths.longest.Tie as tie
