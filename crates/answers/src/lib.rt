@@ -1,11 +1,11 @@
 // The answers as numbers, for callers that take numbers alone: what was written, a verdict, or 1,000 plus a refusal's number.
 ghost use mathlib.Core.Path.{_≡_};
 ghost use Prim.Native.Nat.{ℕ, _+_};
-ghost use Rattle.rules.specs.Refusals.{number, verdictNumber};
+ghost use Rattle.rules.specs.Refusals.{number};
+ghost use Rattle.rules.specs.Values.{comparedOf};
 ghost use Rattle.rules.specs.Packed.{writtenNumber, comparedNumber};
-use rules::Compared;
 use rules::Refusal;
-use rules::Verdict;
+use rules::Standing;
 use rules::Written;
 
 // A refusal: 1,000 and its number.
@@ -36,25 +36,16 @@ fn refusal_number(r: Refusal) -> u64
     }
 }
 
-// A verdict: 0 equal, 1 obsolete, 2 newer, 3 conflict.
-pub fn verdict_code(v: Verdict) -> u64
-    ensures { λ n. ⌜ n ≡ verdictNumber v ⌝ }
+// What a comparison says: 0 equal, 1 obsolete, 2 newer, 3 conflict.
+pub fn compared_code(s: Standing) -> u64
+    ensures { λ n. ⌜ n ≡ comparedNumber (comparedOf s) ⌝ }
 {
-    match v {
-        Verdict::Equal => 0,
-        Verdict::Obsolete => 1,
-        Verdict::Newer => 2,
-        Verdict::Conflict => 3,
-    }
-}
-
-// What a comparison says.
-pub fn compared_code(c: Compared) -> u64
-    ensures { λ n. ⌜ n ≡ comparedNumber c ⌝ }
-{
-    match c {
-        Compared::Is(v) => verdict_code(v),
-        Compared::Refused(r) => refusal_code(r),
+    match s {
+        Standing::Equal => 0,
+        Standing::Obsolete(_) => 1,
+        Standing::Newer(_) => 2,
+        Standing::Conflict(_, _) => 3,
+        Standing::Refused(r) => refusal_code(r),
     }
 }
 

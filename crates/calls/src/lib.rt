@@ -5,9 +5,9 @@ mod lengths;
 ghost use mathlib.Core.Path.{_≡_};
 ghost use mathlib.Core.List.{[]};
 ghost use Rattle.rules.specs.Limits.{narrow};
-ghost use Rattle.rules.specs.Packed.{wrote, comparedAfter, packedUpdate, packedFork, packedJoin, packedCompare, sideOf};
-ghost use Rattle.rules.specs.declared.Verdict.the-variants.{Equal};
-ghost use Rattle.rules.specs.declared.Compared.the-variants.{Is};
+ghost use Rattle.rules.specs.Packed.{wrote, packedUpdate, packedFork, packedJoin, packedCompare, packedStanding, sideOf};
+ghost use Rattle.rules.specs.declared.Standing.the-variants.{Equal};
+ghost use Rattle.walks.specs.Walks.{standAfter};
 ghost use Rattle.layout.specs.Words.{stampOf};
 ghost use Rattle.writing.specs.Fits.{writtenNames};
 ghost use Rattle.calls.specs.Joins.{Lent, wroteJoin};
@@ -19,9 +19,8 @@ use names::UNION;
 use names::grow;
 use reading::read_in;
 use rules::Answer;
-use rules::Compared;
 use rules::Refusal;
-use rules::Verdict;
+use rules::Standing;
 use rules::Written;
 use walks::is_long;
 use writing::write_both;
@@ -93,9 +92,9 @@ pub fn join(first: &[u8], second: &[u8], out: &mut [u8]) -> Written
     write_joined(&u[..k], &i[..l], &v[..m], &j[..n], out)
 }
 
-// How the first stands to the second.
-pub fn compare(first: &[u8], second: &[u8]) -> Compared
-    ensures { λ c. ⌜ c ≡ packedCompare narrow (now (first .entry)) (now (second .entry)) ⌝ }
+// How the first stands to the second, and which string of its update each has beyond the other.
+pub fn compare(first: &[u8], second: &[u8]) -> Standing
+    ensures { λ c. ⌜ c ≡ packedStanding narrow (now (first .entry)) (now (second .entry)) ⌝ }
 {
     let mut u = [0; 16];
     let mut i = [0; 16];
@@ -122,15 +121,12 @@ pub fn compare(first: &[u8], second: &[u8]) -> Compared
 pub fn keep<'a>(first: &'a [u8], second: &'a [u8]) -> &'a [u8]
     ensures { λ r. ⌜ keptIs (sideOf (packedCompare narrow (now (first .entry)) (now (second .entry)))) (first .entry) (second .entry) r ⌝ }
 {
-    let c = compare(first, second);
-    let Compared::Is(v) = c else {
-        return &first[0..0];
-    };
-    match v {
-        Verdict::Equal => first,
-        Verdict::Obsolete => second,
-        Verdict::Newer => first,
-        Verdict::Conflict => &first[0..0],
+    let s = compare(first, second);
+    match s {
+        Standing::Equal => first,
+        Standing::Obsolete(_) => second,
+        Standing::Newer(_) => first,
+        _ => &first[0..0],
     }
 }
 
@@ -191,11 +187,11 @@ fn refused(a: Answer) -> Written
 }
 
 // A refusal passed out of a comparison.
-fn uncompared(a: Answer) -> Compared
-    ensures { λ c. ⌜ c ≡ comparedAfter a (Is Equal) ⌝ }
+fn uncompared(a: Answer) -> Standing
+    ensures { λ c. ⌜ c ≡ standAfter a Equal ⌝ }
 {
     match a {
-        Answer::Refused(r) => Compared::Refused(r),
-        Answer::Done => Compared::Is(Verdict::Equal),
+        Answer::Refused(r) => Standing::Refused(r),
+        Answer::Done => Standing::Equal,
     }
 }

@@ -34,37 +34,31 @@ after s p = record { line = left (s .line) p; table = tableAfter narrow (s .tabl
 
 -- ---- in buffers
 
--- three numbers and 11 bytes for each byte, and no byte more than are to come; else nothing is taken and nothing written
-abbrev pub roomFor : ℕ → ℕ → ℕ → ℕ → Bool
-roomFor n commands out budget = leb (3 * n) commands && leb (11 * n) out && leb n budget
+-- three numbers for each byte, and no byte more than are to come; else nothing is taken and nothing written
+abbrev pub roomFor : ℕ → ℕ → ℕ → Bool
+roomFor n commands budget = leb (3 * n) commands && leb n budget
 
-abbrev pub hasRoom : Trace → Text → List ℕ → List ℕ → Bool
-hasRoom s p commands out = roomFor (length p) (length commands) (length out) (s .budget)
+abbrev pub hasRoom : Trace → Text → List ℕ → Bool
+hasRoom s p commands = roomFor (length p) (length commands) (s .budget)
 
-unfoldable pub fed : Trace → Text → List ℕ → List ℕ → Fed
-fed s p commands out =
-    cond (hasRoom s p commands out) (record { trace = after s p; taken = true; len = length (pieceText s p) })
-    (record { trace = s; taken = false; len = 0 })
+unfoldable pub fed : Trace → Text → List ℕ → Fed
+fed s p commands =
+    cond (hasRoom s p commands) (record { trace = after s p; taken = true; count = length (pieceAnswers s p) })
+    (record { trace = s; taken = false; count = 0 })
 
-unfoldable pub fedCommands : Trace → Text → List ℕ → List ℕ → List ℕ
-fedCommands s p commands out = cond (hasRoom s p commands out) (over (numbers (pieceAnswers s p)) commands) commands
-
-unfoldable pub fedOut : Trace → Text → List ℕ → List ℕ → List ℕ
-fedOut s p commands out = cond (hasRoom s p commands out) (over (pieceText s p) out) out
+unfoldable pub fedCommands : Trace → Text → List ℕ → List ℕ
+fedCommands s p commands = cond (hasRoom s p commands) (over (numbers (pieceAnswers s p)) commands) commands
 
 -- ---- the end: a last line without newline (newline is 10) is answered as if it had one
 
 abbrev pub isWhole : Trace → Bool
 isWhole s = eqb (s .line .len) 0
 
-unfoldable pub closed : Trace → List ℕ → List ℕ → Fed
-closed s commands out = cond (isWhole s) (record { trace = s; taken = true; len = 0 }) (fed s (10 ∷ []) commands out)
+unfoldable pub closed : Trace → List ℕ → Fed
+closed s commands = cond (isWhole s) (record { trace = s; taken = true; count = 0 }) (fed s (10 ∷ []) commands)
 
-unfoldable pub closedCommands : Trace → List ℕ → List ℕ → List ℕ
-closedCommands s commands out = cond (isWhole s) commands (fedCommands s (10 ∷ []) commands out)
-
-unfoldable pub closedOut : Trace → List ℕ → List ℕ → List ℕ
-closedOut s commands out = cond (isWhole s) out (fedOut s (10 ∷ []) commands out)
+unfoldable pub closedCommands : Trace → List ℕ → List ℕ
+closedCommands s commands = cond (isWhole s) commands (fedCommands s (10 ∷ []) commands)
 
 -- ---- all pieces, one after the other, then the end
 

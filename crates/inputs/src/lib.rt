@@ -1,7 +1,7 @@
-// A whole input, piece after piece. Between two pieces stand the line that is unfinished and the table; each piece prints the answers
-// to the lines that end in it. However an input is cut, the same is printed.
+// A whole input, piece after piece. Between two pieces stand the line that is unfinished and the table; each piece answers the lines that
+// end in it. However an input is cut, the answers are the same.
 ghost use mathlib.Core.Path.{_≡_};
-ghost use Rattle.inputs.specs.Pieces.{started, roomFor, fed, fedCommands, fedOut, closed, closedCommands, closedOut};
+ghost use Rattle.inputs.specs.Pieces.{started, roomFor, fed, fedCommands, closed, closedCommands};
 use lines::Unfinished;
 use rules::Record;
 
@@ -13,11 +13,11 @@ pub struct Trace {
     budget: u64,
 }
 
-// What a piece leaves: where the trace stands, whether the piece was taken, and the length of the text that is printed.
+// What a piece leaves: where the trace stands, whether the piece was taken, and how many answered commands stand in the buffer.
 pub struct Fed {
     pub trace: Trace,
     pub taken: bool,
-    pub len: usize,
+    pub count: usize,
 }
 
 // Before the first piece: no line, a fresh table, and more bytes to take than any input has.
@@ -33,31 +33,28 @@ pub fn start() -> Trace
     }
 }
 
-// One piece more: its text at the front of `out`, its answered commands at the front of `commands`; the rest of both stays.
-// For each byte of the piece, `commands` has to have three numbers and `out` 11 bytes. Where they have not, or the trace takes not so
-// many bytes more, nothing is taken or written.
-pub fn feed(trace: Trace, piece: &[u8], commands: &mut [u64], out: &mut [u8]) -> Fed
-    ensures { λ r. ⌜ (r ≡ fed trace (now (piece .entry)) (now (commands .entry)) (now (out .entry)))
-        × (now (commands .exit) ≡ fedCommands trace (now (piece .entry)) (now (commands .entry)) (now (out .entry)))
-        × (now (out .exit) ≡ fedOut trace (now (piece .entry)) (now (commands .entry)) (now (out .entry))) ⌝ }
+// One piece more: its answered commands at the front of `commands`; the rest of it stays. `commands` has to have three numbers for each
+// byte of the piece. Where it has not, or the trace takes not so many bytes more, nothing is taken or written.
+pub fn feed(trace: Trace, piece: &[u8], commands: &mut [u64]) -> Fed
+    ensures { λ r. ⌜ (r ≡ fed trace (now (piece .entry)) (now (commands .entry)))
+        × (now (commands .exit) ≡ fedCommands trace (now (piece .entry)) (now (commands .entry))) ⌝ }
 {
     let n = piece.len();
     let budget = trace.budget;
-    if !has_room(n, commands.len(), out.len(), budget) {
+    if !has_room(n, commands.len(), budget) {
         return Fed {
             trace,
             taken: false,
-            len: 0,
+            count: 0,
         };
     }
     let held = trace.line;
     let before = trace.table;
     let g = lines::gather(held, piece, commands);
-    let end = 3 * g.count;
+    let count = g.count;
+    let end = 3 * count;
     let after = traces::run(&mut commands[..end], before);
-    let p = printing::print(&commands[..end], out);
     let line = g.line;
-    let len = p.len;
     let next = Trace {
         line,
         table: after,
@@ -66,35 +63,31 @@ pub fn feed(trace: Trace, piece: &[u8], commands: &mut [u64], out: &mut [u8]) ->
     Fed {
         trace: next,
         taken: true,
-        len,
+        count,
     }
 }
 
 // The end of the input: a last line without newline is answered as if it had one.
-pub fn close(trace: Trace, commands: &mut [u64], out: &mut [u8]) -> Fed
-    ensures { λ r. ⌜ (r ≡ closed trace (now (commands .entry)) (now (out .entry)))
-        × (now (commands .exit) ≡ closedCommands trace (now (commands .entry)) (now (out .entry)))
-        × (now (out .exit) ≡ closedOut trace (now (commands .entry)) (now (out .entry))) ⌝ }
+pub fn close(trace: Trace, commands: &mut [u64]) -> Fed
+    ensures { λ r. ⌜ (r ≡ closed trace (now (commands .entry)))
+        × (now (commands .exit) ≡ closedCommands trace (now (commands .entry))) ⌝ }
 {
     let n = trace.line.len;
     if n == 0 {
         return Fed {
             trace,
             taken: true,
-            len: 0,
+            count: 0,
         };
     }
-    feed(trace, b"\n", commands, out)
+    feed(trace, b"\n", commands)
 }
 
-// Whether a piece of n bytes is taken, with so many numbers and bytes in the buffers and so many bytes more to take.
-fn has_room(n: usize, commands: usize, out: usize, budget: u64) -> bool
-    ensures { λ r. ⌜ r ≡ roomFor n commands out budget ⌝ }
+// Whether a piece of n bytes is taken, with so many numbers in the buffer and so many bytes more to take.
+fn has_room(n: usize, commands: usize, budget: u64) -> bool
+    ensures { λ r. ⌜ r ≡ roomFor n commands budget ⌝ }
 {
     if commands / 3 < n {
-        return false;
-    }
-    if out / 11 < n {
         return false;
     }
     n as u64 <= budget

@@ -5,7 +5,7 @@ use Rattle.rules.specs.Tables.{Table}
 use Rattle.rules.specs.Traces.{Line, update, fork, join, compare, spare, unreadable, lineTable}
 use Rattle.lines.specs.declared.Command.{Command}
 use Rattle.lines.specs.Commands.{commandOf}
-use Rattle.lines.specs.Runs.{meant, answerNumber, answered, tableAfter}
+use Rattle.lines.specs.Runs.{meant, answer, answered, tableAfter}
 
 pub meant-command : (m : Line) → meant (commandOf m) ≡ m
 unfolding meant commandOf
@@ -22,5 +22,4 @@ pub answered-append : (L : Limits) (cs ds : List Command) (t : Table) → answer
 unfolding answered tableAfter
 answered-append L [] ds t = refl
 answered-append L (c ∷ cs) ds t =
-    ap (λ (es : List Command). record { op = c .op; a = answerNumber L t (meant c); b = c .b } ∷ es)
-    (answered-append L cs ds (lineTable L t (meant c)))
+    ap (λ (es : List Command). answer L t c ∷ es) (answered-append L cs ds (lineTable L t (meant c)))

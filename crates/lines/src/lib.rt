@@ -20,6 +20,9 @@ pub const COMPARE: u64 = 67;
 
 pub const SPARE: u64 = 83;
 
+// The letter of an answered compare that told a conflict: no line has it.
+pub const CONFLICT: u64 = 99;
+
 // The byte that ends a line.
 const NEWLINE: u8 = 10;
 

@@ -1,12 +1,13 @@
--- What an answer's number prints: `op` is the letter of the command, `code` the number of its answer.
-use mathlib.Core.Bool.{Bool, true, false, cond, _||_}
+-- What answered commands print.
+use mathlib.Core.Bool.{cond, _||_}
 use mathlib.Core.List.{List, [], _∷_, _++_}
-use Prim.Native.Nat.{ℕ, _*_, _/_, _%_}
+use Prim.Native.Nat.{ℕ, zero, suc, _-_, _%_}
 use lib.Dec.{eqb, leb, ltb}
-use lib.ListN.{length}
-use Rattle.rules.specs.Traces.{Text, decimal, verdictText, sparedText}
+use lib.ListN.{length, take}
+use Rattle.rules.specs.Strings.{strOf}
+use Rattle.rules.specs.Traces.{Text, decimal, conflictText, verdictText, sparedText}
 use Rattle.rules.specs.Packed.{over}
-use Rattle.rules.specs.declared.Verdict.the-variants.{Equal, Obsolete, Newer, Conflict}
+use Rattle.rules.specs.declared.Verdict.the-variants.{Equal, Obsolete, Newer}
 use Rattle.rules.specs.declared.Spared.the-variants.{Spare, Kept}
 use Rattle.lines.specs.declared.Command.{Command}
 use Rattle.lines.specs.Commands.{heldIn}
@@ -28,33 +29,48 @@ refusedNumber n = 114 ∷ 101 ∷ 102 ∷ 117 ∷ 115 ∷ 101 ∷ 100 ∷ 32 ∷
 unfoldable pub slotAnswer : ℕ → Text
 slotAnswer code = cond (ltb code 1000) (okNumber code) (refusedNumber code)
 
+-- a conflict has no number: its strings are printed
 unfoldable pub comparedAnswer : ℕ → Text
 comparedAnswer code =
-    cond (eqb code 0) (verdictText Equal)
-    (cond (eqb code 1) (verdictText Obsolete) (cond (eqb code 2) (verdictText Newer) (cond (eqb code 3) (verdictText Conflict) (refusedNumber code))))
+    cond (eqb code 0) (verdictText Equal [] [])
+    (cond (eqb code 1) (verdictText Obsolete [] []) (cond (eqb code 2) (verdictText Newer [] []) (refusedNumber code)))
 
 unfoldable pub sparedAnswer : ℕ → Text
 sparedAnswer code = cond (eqb code 0) (sparedText Kept) (cond (eqb code 1) (sparedText Spare) (refusedNumber code))
 
--- by the letter; without one the line was unreadable, refusal 11
-unfoldable pub answerText : ℕ → ℕ → Text
-answerText op code =
-    cond (eqb op 85 || eqb op 70 || eqb op 74) (slotAnswer code)
-    (cond (eqb op 67) (comparedAnswer code) (cond (eqb op 83) (sparedAnswer code) (refusedNumber 11)))
+-- by the letter: `a` is the answer's number, but of a conflict, whose letter is c (99), `a` and `b` are the words of the two strings;
+-- without a letter the line was unreadable, refusal 11
+unfoldable pub answerText : Command → Text
+answerText c =
+    cond (eqb (c .op) 85 || eqb (c .op) 70 || eqb (c .op) 74) (slotAnswer (c .a))
+    (cond (eqb (c .op) 67) (comparedAnswer (c .a))
+    (cond (eqb (c .op) 83) (sparedAnswer (c .a))
+    (cond (eqb (c .op) 99) (conflictText (strOf (c .a)) (strOf (c .b))) (refusedNumber 11))))
 
--- the answers one after the other; each command's answer stands in the place of its first slot
+-- the answers one after the other
 unfoldable pub answersText : List Command → Text
 answersText [] = []
-answersText (c ∷ cs) = answerText (c .op) (c .a) ++ answersText cs
+answersText (c ∷ cs) = answerText c ++ answersText cs
 
--- a line has at most 11 bytes; without room for so many of each answer nothing is written
-abbrev pub canPrint : List ℕ → List ℕ → Bool
-canPrint commands out = leb (11 * (length commands / 3)) (length out)
+-- no answer is longer: "conflict", and two strings of 63 digits, the most that a word can say, each behind a space; newline
+abbrev pub longest : ℕ
+longest = 137
+
+-- how many of the answers are written where there is room for so many bytes: the next one only where there is room for the longest
+unfoldable pub fitting : ℕ → List Command → ℕ
+fitting room [] = zero
+fitting room (c ∷ cs) = cond (leb longest room) (suc (fitting (room - length (answerText c)) cs)) zero
+
+abbrev pub fits : List ℕ → List ℕ → ℕ
+fits commands out = fitting (length out) (heldIn commands)
+
+-- the text of those that are written
+abbrev pub textIn : List ℕ → List ℕ → Text
+textIn commands out = answersText (take (fits commands out) (heldIn commands))
 
 unfoldable pub printed : List ℕ → List ℕ → Printed
-printed commands out =
-    cond (canPrint commands out) (record { taken = true; len = length (answersText (heldIn commands)) }) (record { taken = false; len = 0 })
+printed commands out = record { count = fits commands out; len = length (textIn commands out) }
 
 -- the text at the front, and the rest as it was
 unfoldable pub printedIn : List ℕ → List ℕ → List ℕ
-printedIn commands out = cond (canPrint commands out) (over (answersText (heldIn commands)) out) out
+printedIn commands out = over (textIn commands out) out

@@ -1,10 +1,13 @@
 // What an answer's number prints, from a place of the buffer on. Each function gives the place behind what it wrote.
 ghost use mathlib.Core.Path.{_≡_};
-ghost use Prim.Native.Nat.{_+_, _≤_};
+ghost use Prim.Native.Nat.{_+_, _%_, _≤_};
 ghost use lib.ListN.{length};
-ghost use Rattle.printing.specs.Answers.{answerText, slotAnswer, comparedAnswer, sparedAnswer, refusedNumber, numberText};
+ghost use Rattle.rules.specs.Strings.{strOf};
+ghost use Rattle.rules.specs.Traces.{digitsText, conflictText};
+ghost use Rattle.printing.specs.Answers.{longest, answerText, slotAnswer, comparedAnswer, sparedAnswer, refusedNumber, numberText};
 ghost use Rattle.printing.specs.Inner.{PutAt};
 use lines::COMPARE;
+use lines::CONFLICT;
 use lines::FORK;
 use lines::JOIN;
 use lines::SPARE;
@@ -16,15 +19,16 @@ const REFUSED: u64 = 1000;
 // The number of an unreadable line's refusal.
 const UNREAD: u64 = 11;
 
-// The answer to a command with this letter.
-pub(crate) fn put_answer(out: &mut [u8], at: usize, op: u64, code: u64) -> usize
-    requires { ⌜ at + 11 ≤ length (now out) ⌝ }
-    ensures { λ r. ⌜ PutAt (now (out .entry)) at (answerText op code) r (now (out .exit)) ⌝ }
+// The answer to a command with this letter: `a` is its number, but of a conflict `a` and `b` are the words of two strings.
+pub(crate) fn put_answer(out: &mut [u8], at: usize, op: u64, a: u64, b: u64) -> usize
+    requires { ⌜ at + longest ≤ length (now out) ⌝ }
+    ensures { λ r. ⌜ PutAt (now (out .entry)) at (answerText (record { op = op; a = a; b = b })) r (now (out .exit)) ⌝ }
 {
     match op {
-        UPDATE | FORK | JOIN => put_slot(out, at, code),
-        COMPARE => put_compared(out, at, code),
-        SPARE => put_spared(out, at, code),
+        UPDATE | FORK | JOIN => put_slot(out, at, a),
+        COMPARE => put_compared(out, at, a),
+        SPARE => put_spared(out, at, a),
+        CONFLICT => put_conflict(out, at, a, b),
         _ => put_refused(out, at, UNREAD),
     }
 }
@@ -50,9 +54,36 @@ fn put_compared(out: &mut [u8], at: usize, code: u64) -> usize
         0 => put(out, at, b"equal\n"),
         1 => put(out, at, b"obsolete\n"),
         2 => put(out, at, b"newer\n"),
-        3 => put(out, at, b"conflict\n"),
         _ => put_refused(out, at, code),
     }
+}
+
+// A conflict: the word, then the strings that the words say.
+fn put_conflict(out: &mut [u8], at: usize, a: u64, b: u64) -> usize
+    requires { ⌜ at + longest ≤ length (now out) ⌝ }
+    ensures { λ r. ⌜ PutAt (now (out .entry)) at (conflictText (strOf a) (strOf b)) r (now (out .exit)) ⌝ }
+{
+    let first = put(out, at, b"conflict ");
+    let gap = put_digits(out, first, a);
+    let second = put(out, gap, b" ");
+    let end = put_digits(out, second, b);
+    put(out, end, b"\n")
+}
+
+// The digits of the string that a word says.
+fn put_digits(out: &mut [u8], at: usize, word: u64) -> usize
+    requires { ⌜ at + word % 64 ≤ length (now out) ⌝ }
+    ensures { λ r. ⌜ PutAt (now (out .entry)) at (digitsText (strOf word)) r (now (out .exit)) ⌝ }
+{
+    let n = (word % 64) as usize;
+    let mut rest = word;
+    let mut i = 0;
+    while i < n {
+        out[at + i] = (48 + (rest >> 63)) as u8;
+        rest <<= 1;
+        i += 1;
+    }
+    at + i
 }
 
 // Whether a copy may go.

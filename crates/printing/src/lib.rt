@@ -1,38 +1,32 @@
 // A trace's answers as text. A command in the buffer is three numbers; where it has been answered, the number of its answer stands in the
-// place of its first slot.
+// place of its first slot, or, where two copies are in conflict, both slots give way to the words of their uncovered strings.
 mod answers;
 
 ghost use mathlib.Core.Path.{_≡_};
 ghost use Rattle.printing.specs.Answers.{printed, printedIn};
 
-// Whether there was room for the answers, and the length of their text.
+// No answer is longer than so many bytes: `conflict` and two strings, of 63 digits at most, as many as a word can say.
+const LONGEST: usize = 137;
+
+// How many answers were written, and the length of their text.
 pub struct Printed {
-    pub taken: bool,
+    pub count: usize,
     pub len: usize,
 }
 
-// The text of all answers that the commands hold, at the front of the buffer; the rest of it stays.
-// The buffer has to have 11 bytes for each answer. Where it has not, none is taken: nothing is written.
+// The text of the answers that the commands hold, from the first on, at the front of the buffer; the rest of it stays. An answer is
+// written where the longest would have room, so a buffer of that size takes at least one: print what is left again.
 pub fn print(commands: &[u64], out: &mut [u8]) -> Printed
     ensures { λ r. ⌜ (r ≡ printed (now (commands .entry)) (now (out .entry)))
         × (now (out .exit) ≡ printedIn (now (commands .entry)) (now (out .entry))) ⌝ }
 {
     let count = commands.len() / 3;
-    if out.len() / 11 < count {
-        return Printed {
-            taken: false,
-            len: 0,
-        };
-    }
     let mut at = 0;
     let mut k = 0;
-    while k < count {
+    while k < count && LONGEST <= out.len() - at {
         let i = 3 * k;
-        at = answers::put_answer(out, at, commands[i], commands[i + 1]);
+        at = answers::put_answer(out, at, commands[i], commands[i + 1], commands[i + 2]);
         k += 1;
     }
-    Printed {
-        taken: true,
-        len: at,
-    }
+    Printed { count: k, len: at }
 }

@@ -1,8 +1,9 @@
 -- "Strings, names, stamps": names, below, union. A name is a set of strings; it stands as the list of them in rising order.
 use mathlib.Core.Bool.{Bool, true, false, cond, not, _&&_, _||_}
 use mathlib.Core.List.{List, [], _∷_, _++_}
+use Prim.Native.Nat.{ℕ, zero, suc}
 use lib.Dec.{leb}
-use lib.ListN.{length}
+use lib.ListN.{length, getD}
 use Rattle.rules.specs.Limits.{Limits}
 use Rattle.rules.specs.Strings.{Str, prefix, same, less}
 
@@ -42,6 +43,16 @@ covered s n = any (prefix s) n
 -- "Name m is below name n when each string of m is a prefix of some string of n"
 unfoldable pub below : Name → Name → Bool
 below m n = all (λ s. covered s n) m
+
+-- "The uncovered string of a copy is the first string of its update name, in rising order, that no string of the other's update name
+-- extends": its place in m, from 0; as many as m has where there is none
+unfoldable pub uncovered : Name → Name → ℕ
+uncovered [] n = zero
+uncovered (s ∷ m) n = cond (covered s n) (suc (uncovered m n)) zero
+
+-- and the string itself; e where there is none, since e is never uncovered: every string extends it
+unfoldable pub lacked : Name → Name → Str
+lacked m n = getD m (uncovered m n) []
 
 -- s put in its place among strings in rising order; a string stands once
 unfoldable pub insert : Str → Name → Name

@@ -11,7 +11,7 @@ use Rattle.rules.specs.Names.{Name, any}
 use Rattle.rules.specs.Stamps.{Stamp, lawful}
 use Rattle.rules.specs.Stored.{held, unlawful}
 use Rattle.rules.specs.Refusals.{first, andThen, number, verdictNumber}
-use Rattle.rules.specs.Values.{given, updated, forked, joined, compared}
+use Rattle.rules.specs.Values.{given, updated, forked, joined, compared, standsAs}
 use Rattle.rules.specs.declared.Record.{Record}
 use Rattle.rules.specs.declared.Verdict.{Verdict}
 use Rattle.rules.specs.declared.Refusal.the-variants.{Malformed, Unlawful, Short}
@@ -19,6 +19,7 @@ use Rattle.rules.specs.declared.Answer.{Answer}
 use Rattle.rules.specs.declared.Answer.the-variants.{Done, Refused}
 use Rattle.rules.specs.declared.Compared.{Compared}
 use Rattle.rules.specs.declared.Compared.the-variants.{Is, Refused as NotCompared}
+use Rattle.rules.specs.declared.Standing.{Standing}
 use Rattle.rules.specs.declared.Given.{Given}
 use Rattle.rules.specs.declared.Forked.{Forked}
 use Rattle.rules.specs.declared.Written.{Written}
@@ -160,6 +161,9 @@ packedCompare L s t =
     let g : Given = readStamp L s in
     let h : Given = readStamp L t in
     comparedAfter (andThen (g .answer) (h .answer)) (compared L (g .stamp) (h .stamp))
+
+unfoldable pub packedStanding : Limits → List ℕ → List ℕ → Standing
+packedStanding L s t = standsAs (packedCompare L s t) (held (readStamp L s .stamp) .update) (held (readStamp L t .stamp) .update)
 
 -- a fork's answer, and what both buffers hold afterwards
 pub record WroteTwo : Type 0 where

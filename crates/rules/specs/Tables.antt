@@ -9,7 +9,7 @@ use Rattle.rules.specs.Limits.{Limits, records}
 use Rattle.rules.specs.Stamps.{Stamp, start, update, fork, join, compare}
 use Rattle.rules.specs.Stored.{stored, held, unlawful, blank, absent}
 use Rattle.rules.specs.Refusals.{number, first, long, many, overlap, unseen}
-use Rattle.rules.specs.Values.{told}
+use Rattle.rules.specs.Values.{told, standsAs}
 use Rattle.rules.specs.declared.Record.{Record}
 use Rattle.rules.specs.declared.Verdict.{Verdict}
 use Rattle.rules.specs.declared.Refusal.{Refusal}
@@ -17,6 +17,7 @@ use Rattle.rules.specs.declared.Refusal.the-variants.{NoSlot, OneSlot, F
 use Rattle.rules.specs.declared.Answer.{Answer}
 use Rattle.rules.specs.declared.Answer.the-variants.{Done, Refused}
 use Rattle.rules.specs.declared.Compared.{Compared}
+use Rattle.rules.specs.declared.Standing.{Standing}
 use Rattle.rules.specs.declared.Slot.{Slot}
 use Rattle.rules.specs.declared.Slot.the-variants.{At, Refused as NoSlotGiven}
 use Rattle.rules.specs.declared.Spared.{Spared}
@@ -122,6 +123,9 @@ compareAt L t a b =
     ∷ (not (eqb a b) && unseen (stampAt t a) (stampAt t b), Unseen)
     ∷ []))
     (compare (stampAt t a) (stampAt t b))
+
+unfoldable pub standingAt : Limits → Table → ℕ → ℕ → Standing
+standingAt L t a b = standsAs (compareAt L t a b) (stampAt t a .update) (stampAt t b .update)
 
 -- one pair: "the first obsolete verdict gives yes, the first refusal is the result"
 abbrev pub orNext : Answer → Verdict → Spared → Spared

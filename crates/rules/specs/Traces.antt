@@ -5,8 +5,10 @@ use mathlib.Core.Option.{Option, none, some}
 use Prim.Native.Nat.{ℕ, _+_, _*_, _-_, _/_, _%_}
 use lib.Dec.{eqb, leb, ltb}
 use Rattle.rules.specs.Limits.{Limits, records}
+use Rattle.rules.specs.Strings.{Str, digit}
+use Rattle.rules.specs.Names.{lacked}
 use Rattle.rules.specs.Refusals.{number}
-use Rattle.rules.specs.Tables.{Table, freshTable, updateAt, forkAt, joinAt, compareAt, spareAt}
+use Rattle.rules.specs.Tables.{Table, stampAt, freshTable, updateAt, forkAt, joinAt, compareAt, spareAt}
 use Rattle.rules.specs.declared.Verdict.{Verdict}
 use Rattle.rules.specs.declared.Verdict.the-variants.{Equal, Obsolete, Newer, Conflict}
 use Rattle.rules.specs.declared.Refusal.{Refusal}
@@ -108,20 +110,30 @@ okText a = 111 ∷ 107 ∷ 32 ∷ (decimal a ++ (10 ∷ []))
 unfoldable pub refusedText : Refusal → Text
 refusedText r = 114 ∷ 101 ∷ 102 ∷ 117 ∷ 115 ∷ 101 ∷ 100 ∷ 32 ∷ (decimal (number r) ++ (10 ∷ []))
 
--- the words equal, obsolete, newer, conflict
-unfoldable pub verdictText : Verdict → Text
-verdictText Equal = 101 ∷ 113 ∷ 117 ∷ 97 ∷ 108 ∷ 10 ∷ []
-verdictText Obsolete = 111 ∷ 98 ∷ 115 ∷ 111 ∷ 108 ∷ 101 ∷ 116 ∷ 101 ∷ 10 ∷ []
-verdictText Newer = 110 ∷ 101 ∷ 119 ∷ 101 ∷ 114 ∷ 10 ∷ []
-verdictText Conflict = 99 ∷ 111 ∷ 110 ∷ 102 ∷ 108 ∷ 105 ∷ 99 ∷ 116 ∷ 10 ∷ []
+-- a string as its digits
+unfoldable pub digitsText : Str → Text
+digitsText [] = []
+digitsText (d ∷ s) = (48 + digit d) ∷ digitsText s
+
+-- "`conflict`, then, each after a space, the first copy's uncovered string and the second's, as digits"
+unfoldable pub conflictText : Str → Str → Text
+conflictText x y =
+    99 ∷ 111 ∷ 110 ∷ 102 ∷ 108 ∷ 105 ∷ 99 ∷ 116 ∷ 32 ∷ (digitsText x ++ (32 ∷ (digitsText y ++ (10 ∷ []))))
+
+-- the words equal, obsolete, newer, conflict; x and y are the uncovered strings
+unfoldable pub verdictText : Verdict → Str → Str → Text
+verdictText Equal x y = 101 ∷ 113 ∷ 117 ∷ 97 ∷ 108 ∷ 10 ∷ []
+verdictText Obsolete x y = 111 ∷ 98 ∷ 115 ∷ 111 ∷ 108 ∷ 101 ∷ 116 ∷ 101 ∷ 10 ∷ []
+verdictText Newer x y = 110 ∷ 101 ∷ 119 ∷ 101 ∷ 114 ∷ 10 ∷ []
+verdictText Conflict x y = conflictText x y
 
 abbrev pub slotText : Slot → Text
 slotText (At a) = okText a
 slotText (Refused r) = refusedText r
 
-abbrev pub comparedText : Compared → Text
-comparedText (Is v) = verdictText v
-comparedText (NotCompared r) = refusedText r
+abbrev pub comparedText : Compared → Str → Str → Text
+comparedText (Is v) x y = verdictText v x y
+comparedText (NotCompared r) x y = refusedText r
 
 -- the words spare, kept
 abbrev pub sparedText : Spared → Text
@@ -131,11 +143,15 @@ sparedText (NotTold r) = refusedText r
 
 -- ---- a line at a table: what it prints and what it leaves
 
+-- what the copy in slot a has and that in slot b lacks
+abbrev pub lackedAt : Table → ℕ → ℕ → Str
+lackedAt t a b = lacked (stampAt t a .update) (stampAt t b .update)
+
 unfoldable pub lineText : Limits → Table → Line → Text
 lineText L t (update a) = slotText (updateAt L t a .answer)
 lineText L t (fork a) = slotText (forkAt L t a .answer)
 lineText L t (join a b) = slotText (joinAt L t a b .answer)
-lineText L t (compare a b) = comparedText (compareAt L t a b)
+lineText L t (compare a b) = comparedText (compareAt L t a b) (lackedAt t a b) (lackedAt t b a)
 lineText L t (spare a) = sparedText (spareAt L t a)
 lineText L t unreadable = refusedText Unread
 

@@ -3,6 +3,8 @@
 use mathlib.Core.Bool.{Bool, true, false}
 use mathlib.Core.List.{List, [], _∷_}
 use Rattle.rules.specs.Limits.{Limits}
+use Rattle.rules.specs.Strings.{wordOf}
+use Rattle.rules.specs.Names.{Name, uncovered, lacked}
 use Rattle.rules.specs.Stamps.{Stamp, update, fork, join, compare}
 use Rattle.rules.specs.Stored.{stored, held, unlawful, blank}
 use Rattle.rules.specs.Refusals.{first, long, many, overlap, unseen}
@@ -14,6 +16,8 @@ use Rattle.rules.specs.declared.Answer.{Answer}
 use Rattle.rules.specs.declared.Answer.the-variants.{Done, Refused}
 use Rattle.rules.specs.declared.Compared.{Compared}
 use Rattle.rules.specs.declared.Compared.the-variants.{Is, Refused as NotCompared}
+use Rattle.rules.specs.declared.Uncovered.{Uncovered}
+use Rattle.rules.specs.declared.Standing.{Standing}
 use Rattle.rules.specs.declared.Given.{Given}
 use Rattle.rules.specs.declared.Forked.{Forked}
 
@@ -48,3 +52,32 @@ joined L a b =
 
 unfoldable pub compared : Limits → Record → Record → Compared
 compared L a b = told (first (meeting L a b [])) (compare (held a) (held b))
+
+-- ---- a comparison, and which edits the other copy lacks
+
+-- what m has and n lacks
+abbrev pub beyond : Name → Name → Uncovered
+beyond m n = record { place = uncovered m n; word = wordOf (lacked m n) }
+
+-- "Equal has none, obsolete the second's, newer the first's, conflict both"
+abbrev pub placed : Compared → Uncovered → Uncovered → Standing
+placed (Is Verdict.Equal) x y = Standing.Equal
+placed (Is Verdict.Obsolete) x y = Standing.Obsolete y
+placed (Is Verdict.Newer) x y = Standing.Newer x
+placed (Is Verdict.Conflict) x y = Standing.Conflict x y
+placed (NotCompared r) x y = Standing.Refused r
+
+-- what was compared, without the places
+abbrev pub comparedOf : Standing → Compared
+comparedOf Standing.Equal = Is Verdict.Equal
+comparedOf (Standing.Obsolete y) = Is Verdict.Obsolete
+comparedOf (Standing.Newer x) = Is Verdict.Newer
+comparedOf (Standing.Conflict x y) = Is Verdict.Conflict
+comparedOf (Standing.Refused r) = NotCompared r
+
+-- two update names that were so compared
+abbrev pub standsAs : Compared → Name → Name → Standing
+standsAs c u v = placed c (beyond u v) (beyond v u)
+
+unfoldable pub standing : Limits → Record → Record → Standing
+standing L a b = standsAs (compared L a b) (held a .update) (held b .update)

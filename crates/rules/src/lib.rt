@@ -65,6 +65,21 @@ pub enum Compared {
     Refused(Refusal),
 }
 
+// The first string of a copy's update name, in rising order, that no string of the other's extends: its place, from 0, and its word.
+pub struct Uncovered {
+    pub place: usize,
+    pub word: u64,
+}
+
+// How the first of two copies stands to the second, with the uncovered string of each that has one: obsolete the second's, newer the first's.
+pub enum Standing {
+    Equal,
+    Obsolete(Uncovered),
+    Newer(Uncovered),
+    Conflict(Uncovered, Uncovered),
+    Refused(Refusal),
+}
+
 // One stamp beside the answer; all zeros on refusal.
 pub struct Given {
     pub answer: Answer,

@@ -7,6 +7,7 @@ use lib.Dec.{eqb, ltb}
 use Rattle.rules.specs.Limits.{narrow, records}
 use Rattle.rules.specs.Stored.{isStored, absent}
 use Rattle.rules.specs.Refusals.{first}
+use Rattle.rules.specs.Values.{comparedOf}
 use Rattle.rules.specs.declared.Record.{Record}
 use Rattle.rules.specs.declared.Verdict.{Verdict}
 use Rattle.rules.specs.declared.Verdict.the-variants.{Equal, Obsolete, Newer, Conflict}
@@ -54,7 +55,7 @@ spareCode (NotCompared r) = codeOf r
 -- m is lawful: what its words and those of a lawful record tell
 unfoldable pub meetCode : Record → Record → ℕ
 meetCode m r =
-    cond (isStored narrow r) (spareCode (compareWalk (front (m .update)) (front (m .id)) (front (r .update)) (front (r .id)))) (codeOf Unfit)
+    cond (isStored narrow r) (spareCode (comparedOf (compareWalk (front (m .update)) (front (m .id)) (front (r .update)) (front (r .id))))) (codeOf Unfit)
 
 -- slot `at` itself and absent ones are passed over
 unfoldable pub weighed : Scan → ℕ → Record → Bool → ℕ

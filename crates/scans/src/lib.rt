@@ -2,12 +2,12 @@
 // another obsolete. A look is total: it takes any numbers and records. Answers are numbers, as sparedNumber of the rules says.
 ghost use mathlib.Core.Path.{_≡_};
 ghost use Prim.Native.Nat.{_≤_};
-ghost use Rattle.scans.specs.Scans.{spanOf, absentOrNext, weighed, weighStart, onwardTo, foundOr, obsoleteNumber, spareCode, meetCode};
+ghost use Rattle.rules.specs.Values.{comparedOf};
+ghost use Rattle.scans.specs.Scans.{spanOf, absentOrNext, weighed, weighStart, onwardTo, foundOr, spareCode, meetCode};
 use answers::refusal_code;
 use names::counted;
-use rules::Compared;
 use rules::Record;
-use rules::Verdict;
+use rules::Standing;
 use slots::RECORDS;
 use slots::UNFIT;
 use slots::is_absent;
@@ -114,23 +114,12 @@ fn meet_code(m: Record, r: Record) -> u64
 }
 
 // 1 where the comparison lets the first go, 0 where it keeps it.
-fn spare_code(c: Compared) -> u64
-    ensures { λ n. ⌜ n ≡ spareCode c ⌝ }
+fn spare_code(s: Standing) -> u64
+    ensures { λ n. ⌜ n ≡ spareCode (comparedOf s) ⌝ }
 {
-    match c {
-        Compared::Is(v) => is_obsolete(v),
-        Compared::Refused(r) => refusal_code(r),
-    }
-}
-
-// 1 where the first is obsolete, else 0.
-fn is_obsolete(v: Verdict) -> u64
-    ensures { λ n. ⌜ n ≡ obsoleteNumber v ⌝ }
-{
-    match v {
-        Verdict::Equal => 0,
-        Verdict::Obsolete => 1,
-        Verdict::Newer => 0,
-        Verdict::Conflict => 0,
+    match s {
+        Standing::Obsolete(_) => 1,
+        Standing::Refused(r) => refusal_code(r),
+        _ => 0,
     }
 }

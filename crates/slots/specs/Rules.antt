@@ -7,11 +7,12 @@ use Rattle.rules.specs.Limits.{narrow}
 use Rattle.rules.specs.Stamps.{update, fork, join, compare}
 use Rattle.rules.specs.Stored.{stored, held, unlawful, blank, absent}
 use Rattle.rules.specs.Refusals.{number, first, long, many, overlap, unseen}
-use Rattle.rules.specs.Values.{told}
-use Rattle.rules.specs.Packed.{comparedNumber}
+use Rattle.rules.specs.Values.{told, standsAs}
 use Rattle.rules.specs.declared.Record.{Record}
 use Rattle.rules.specs.declared.Refusal.{Refusal}
 use Rattle.rules.specs.declared.Refusal.the-variants.{Unlawful, NoSlot, OneSlot, Full, Long, Many, Overlap, Unseen, Unfit}
+use Rattle.rules.specs.declared.Verdict.{Verdict}
+use Rattle.rules.specs.declared.Standing.{Standing}
 use Rattle.rules.specs.declared.Answer.{Answer}
 use Rattle.rules.specs.declared.Answer.the-variants.{Done, Refused}
 use Rattle.slots.specs.Gates.{codeOf}
@@ -81,8 +82,24 @@ joinRule a b s u =
     (blank narrow)
 
 -- a slot is equal to itself, where it has a lawful record
-unfoldable pub compareRule : ℕ → ℕ → Record → Record → ℕ
-compareRule a b s u =
-    cond (eqb a b) (answerCode (first (slotTests s [])) 0)
-    (comparedNumber
-    (told (first ((absent narrow s, NoSlot) ∷ (absent narrow u, NoSlot) ∷ meetTests s u [])) (compare (held s) (held u))))
+abbrev pub compareTests : ℕ → ℕ → Record → Record → List (Bool × Refusal)
+compareTests a b s u =
+    (absent narrow s, NoSlot) ∷ (absent narrow u, NoSlot) ∷ cond (eqb a b) ((unlawful narrow s, Unfit) ∷ []) (meetTests s u [])
+
+abbrev pub verdictOf : ℕ → ℕ → Record → Record → Verdict
+verdictOf a b s u = cond (eqb a b) Verdict.Equal (compare (held s) (held u))
+
+unfoldable pub compareRule : ℕ → ℕ → Record → Record → Standing
+compareRule a b s u = standsAs (told (first (compareTests a b s u)) (verdictOf a b s u)) (held s .update) (held u .update)
+
+-- what the gate refuses: 12, or 3
+unfoldable pub notCompared : ℕ → Standing
+notCompared code = Standing.Refused (cond (eqb code (codeOf Unfit)) Unfit NoSlot)
+
+-- a comparison by value, at the table
+abbrev pub standingHere : Standing → Standing
+standingHere Standing.Equal = Standing.Equal
+standingHere (Standing.Obsolete y) = Standing.Obsolete y
+standingHere (Standing.Newer x) = Standing.Newer x
+standingHere (Standing.Conflict x y) = Standing.Conflict x y
+standingHere (Standing.Refused r) = Standing.Refused (refusedAt r)

@@ -1,18 +1,22 @@
 // The table's rules by value: what is asked of numbers alone, and what a call answers and leaves in the records that it names. A rule is
-// total: it takes records of any content, and one that refuses gives back what it got. Answers are numbers, as slotNumber and
-// comparedNumber of the rules say.
+// total: it takes records of any content, and one that refuses gives back what it got. Answers are numbers, as slotNumber of
+// the rules says; a comparison is the standing itself.
 ghost use mathlib.Core.Path.{_≡_};
-ghost use mathlib.Core.List.{[]};
+ghost use mathlib.Core.List.{[], _∷_};
 ghost use Rattle.rules.specs.Limits.{narrow};
 ghost use Rattle.rules.specs.Refusals.{first};
-ghost use Rattle.rules.specs.Stored.{absent};
+ghost use Rattle.rules.specs.Stored.{absent, unlawful};
+ghost use Rattle.rules.specs.declared.Refusal.the-variants.{Unfit};
+ghost use Rattle.rules.specs.declared.Standing.the-variants.{Equal};
+ghost use Rattle.walks.specs.Walks.{standAfter};
 ghost use Rattle.slots.specs.Gates.{gateCode, freshSlot};
-ghost use Rattle.slots.specs.Rules.{tableCode, answerCode, fullCode, slotTests, pairTests, updateRule, forkRule, joinRule, compareRule};
-use answers::compared_code;
+ghost use Rattle.slots.specs.Rules.{tableCode, answerCode, fullCode, slotTests, pairTests, updateRule, forkRule, joinRule, compareRule, notCompared, refusedAt, standingHere};
 use answers::refusal_code;
 use names::is_zero_from;
 use rules::Answer;
 use rules::Record;
+use rules::Refusal;
+use rules::Standing;
 use stamps::blank;
 
 // A table has at most so many records.
@@ -167,19 +171,29 @@ pub fn join_rule(a: usize, b: usize, s: Record, u: Record) -> Two
 }
 
 // The rule of compare: a slot is equal to itself.
-pub fn compare_rule(a: usize, b: usize, s: Record, u: Record) -> u64
+pub fn compare_rule(a: usize, b: usize, s: Record, u: Record) -> Standing
     ensures { λ n. ⌜ n ≡ compareRule a b s u ⌝ }
 {
-    if a == b {
-        return slot_code(s);
-    }
     if is_absent(s) {
-        return NO_SLOT;
+        return Standing::Refused(Refusal::NoSlot);
     }
     if is_absent(u) {
-        return NO_SLOT;
+        return Standing::Refused(Refusal::NoSlot);
     }
-    table_code(compared_code(stamps::compare(s, u)))
+    if a == b {
+        return equal_to_itself(s);
+    }
+    standing_at(stamps::compare(s, u))
+}
+
+// A comparison that the gate refused: 12 for the size, else 3.
+pub fn not_compared(code: u64) -> Standing
+    ensures { λ s. ⌜ s ≡ notCompared code ⌝ }
+{
+    if code == UNFIT {
+        return Standing::Refused(Refusal::Unfit);
+    }
+    Standing::Refused(Refusal::NoSlot)
 }
 
 // Whether there is no copy in the record: it is all zeros.
@@ -235,6 +249,36 @@ fn pair_code(a: usize, b: usize, s: Record, u: Record) -> u64
         return ONE_SLOT;
     }
     0
+}
+
+// A lawful record beside itself.
+fn equal_to_itself(s: Record) -> Standing
+    ensures { λ r. ⌜ r ≡ standAfter (first ((unlawful narrow s, Unfit) ∷ [])) Equal ⌝ }
+{
+    if stamps::is_lawful(s) {
+        return Standing::Equal;
+    }
+    Standing::Refused(Refusal::Unfit)
+}
+
+// A comparison at the table: what is refused as unlawful by value, 2, is 12 here.
+fn standing_at(s: Standing) -> Standing
+    ensures { λ r. ⌜ r ≡ standingHere s ⌝ }
+{
+    match s {
+        Standing::Refused(r) => Standing::Refused(refusal_at(r)),
+        _ => s,
+    }
+}
+
+// A refusal at the table.
+fn refusal_at(r: Refusal) -> Refusal
+    ensures { λ t. ⌜ t ≡ refusedAt r ⌝ }
+{
+    match r {
+        Refusal::Unlawful => Refusal::Unfit,
+        _ => r,
+    }
 }
 
 // A number at the table: what a rule by value refuses as unlawful, 2, is 12 here.

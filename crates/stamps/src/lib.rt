@@ -4,18 +4,18 @@ ghost use mathlib.Core.List.{[]};
 ghost use Rattle.rules.specs.Limits.{narrow};
 ghost use Rattle.rules.specs.Stored.{blank, isStored};
 ghost use Rattle.rules.specs.Refusals.{first};
-ghost use Rattle.rules.specs.Values.{updated, forked, compared, meeting};
+ghost use Rattle.rules.specs.Values.{updated, forked, standing, meeting};
 ghost use Rattle.rules.specs.declared.Answer.the-variants.{Refused};
 use names::STRINGS;
 use names::counted;
 use names::grow;
 use names::is_name_in;
 use rules::Answer;
-use rules::Compared;
 use rules::Forked;
 use rules::Given;
 use rules::Record;
 use rules::Refusal;
+use rules::Standing;
 use rules::Words;
 use walks::has_twins;
 use walks::is_below;
@@ -122,15 +122,15 @@ pub fn meet(a: Record, b: Record) -> Answer
     )
 }
 
-// How the first stands to the second.
-pub fn compare(a: Record, b: Record) -> Compared
-    ensures { λ c. ⌜ c ≡ compared narrow a b ⌝ }
+// How the first stands to the second, and which string of its update each has beyond the other.
+pub fn compare(a: Record, b: Record) -> Standing
+    ensures { λ c. ⌜ c ≡ standing narrow a b ⌝ }
 {
     if !is_lawful_in(&a.update.words, a.update.count, &a.id.words, a.id.count) {
-        return Compared::Refused(Refusal::Unlawful);
+        return Standing::Refused(Refusal::Unlawful);
     }
     if !is_lawful_in(&b.update.words, b.update.count, &b.id.words, b.id.count) {
-        return Compared::Refused(Refusal::Unlawful);
+        return Standing::Refused(Refusal::Unlawful);
     }
     walks::compare(
         counted(&a.update.words, a.update.count),

@@ -1,14 +1,14 @@
 // The table of copies: a lent run of records. A function over the run is thin: it asks a gate about numbers alone, hands
 // records by value to a rule that is total, and stores what the rule gives back; a refusing rule gives back what it got.
-// Answers are numbers, as slotNumber, comparedNumber and sparedNumber of the rules say: a refusal is 1,000 plus its number.
+// Answers are numbers, as slotNumber and sparedNumber of the rules say: a refusal is 1,000 plus its number. A comparison is the standing itself.
 ghost use mathlib.Core.Path.{_≡_};
 ghost use Rattle.rules.specs.Limits.{narrow};
-ghost use Rattle.rules.specs.Packed.{comparedNumber};
-ghost use Rattle.rules.specs.Tables.{slotNumber, sparedNumber, makeFresh, updateAt, forkAt, joinAt, compareAt, spareAt};
+ghost use Rattle.rules.specs.Tables.{slotNumber, sparedNumber, makeFresh, updateAt, forkAt, joinAt, standingAt, spareAt};
 ghost use Rattle.scans.specs.Scans.{foundOr, absentOrNext, weighOf};
 ghost use Rattle.tables.specs.Passes.{scanOf};
 ghost use Rattle.tables.specs.Forks.{forkCode, forkList};
 use rules::Record;
+use rules::Standing;
 use scans::Scan;
 use scans::absent_or_next;
 use scans::found_or;
@@ -67,15 +67,15 @@ pub fn join(t: &mut [Record], a: usize, b: usize) -> u64
     g
 }
 
-// How the copy in slot a stands to that in slot b.
-pub fn compare(t: &[Record], a: usize, b: usize) -> u64
-    ensures { λ r. ⌜ r ≡ comparedNumber (compareAt narrow (now (t .entry)) a b) ⌝ }
+// How the copy in slot a stands to that in slot b, and which string of its update each has beyond the other.
+pub fn compare(t: &[Record], a: usize, b: usize) -> Standing
+    ensures { λ r. ⌜ r ≡ standingAt narrow (now (t .entry)) a b ⌝ }
 {
     let g = gate(t.len(), a, b);
     if g == 0 {
         return slots::compare_rule(a, b, t[a], t[b]);
     }
-    g
+    slots::not_compared(g)
 }
 
 // Whether slot a's copy is obsolete relative to some other: 0 kept, 1 spare.

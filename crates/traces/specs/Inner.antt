@@ -5,21 +5,25 @@ use Prim.Native.Nat.{ℕ, _+_, _*_, _/_}
 use lib.Dec.{eqb, ltb}
 use lib.ListN.{length, getD, set}
 use Rattle.rules.specs.Limits.{narrow}
-use Rattle.rules.specs.Packed.{comparedNumber}
 use Rattle.rules.specs.Refusals.{number}
 use Rattle.rules.specs.declared.Refusal.the-variants.{Unread}
-use Rattle.rules.specs.Tables.{Table, updateAt, forkAt, joinAt, compareAt, spareAt, slotNumber, sparedNumber}
+use Rattle.rules.specs.Tables.{Table, updateAt, forkAt, joinAt, standingAt, spareAt, slotNumber, sparedNumber}
 use Rattle.lines.specs.declared.Command.{Command}
+use Rattle.lines.specs.Runs.{stood}
+use Rattle.traces.specs.Serves.{command}
 
 -- the two letters that only read; refusal 11 for any other
-unfoldable pub toldNumber : Table → ℕ → ℕ → ℕ → ℕ
-toldNumber t op a b = cond (eqb op 67) (comparedNumber (compareAt narrow t a b)) (cond (eqb op 83) (sparedNumber (spareAt narrow t a)) (1000 + number Unread))
+unfoldable pub toldBy : Table → ℕ → ℕ → ℕ → Command
+toldBy t op a b =
+    cond (eqb op 67) (stood (command 67 0 b) (standingAt narrow t a b))
+    (cond (eqb op 83) (command op (sparedNumber (spareAt narrow t a)) b) (command op (1000 + number Unread) b))
 
 -- the three that change the table; n for any other
-unfoldable pub changedNumber : Table → ℕ → ℕ → ℕ → ℕ → ℕ
-changedNumber t op a b n =
-    cond (eqb op 85) (slotNumber (updateAt narrow t a .answer))
-    (cond (eqb op 70) (slotNumber (forkAt narrow t a .answer)) (cond (eqb op 74) (slotNumber (joinAt narrow t a b .answer)) n))
+unfoldable pub changedBy : Table → ℕ → ℕ → ℕ → Command → Command
+changedBy t op a b n =
+    cond (eqb op 85) (command op (slotNumber (updateAt narrow t a .answer)) b)
+    (cond (eqb op 70) (command op (slotNumber (forkAt narrow t a .answer)) b)
+    (cond (eqb op 74) (command op (slotNumber (joinAt narrow t a b .answer)) b) n))
 
 unfoldable pub changedTable : Table → ℕ → ℕ → ℕ → Table
 changedTable t op a b =
@@ -30,5 +34,5 @@ unfoldable pub commandAt : List ℕ → ℕ → Command
 commandAt l k = cond (ltb k (length l / 3)) (record { op = getD l (3 * k) 0; a = getD l (3 * k + 1) 0; b = getD l (3 * k + 2) 0 })
     (record { op = 0; a = 0; b = 0 })
 
-unfoldable pub putAt : List ℕ → ℕ → ℕ → List ℕ
-putAt l k d = cond (ltb k (length l / 3)) (set l (3 * k + 1) d) l
+unfoldable pub putAt : List ℕ → ℕ → Command → List ℕ
+putAt l k c = cond (ltb k (length l / 3)) (set (set (set l (3 * k) (c .op)) (3 * k + 1) (c .a)) (3 * k + 2) (c .b)) l

@@ -3,31 +3,34 @@ ghost use mathlib.Core.Path.{_≡_};
 ghost use Rattle.rules.specs.Limits.{narrow, records};
 ghost use Rattle.rules.specs.Tables.{freshTable};
 ghost use Rattle.rules.specs.Traces.{lineTable};
-ghost use Rattle.lines.specs.Runs.{meant, answerNumber};
+ghost use Rattle.lines.specs.Runs.{meant, answer, stood};
 ghost use Rattle.traces.specs.Serves.{command, ranTable, ranIn};
-ghost use Rattle.traces.specs.Inner.{toldNumber, changedNumber, changedTable, commandAt, putAt};
+ghost use Rattle.traces.specs.Inner.{toldBy, changedBy, changedTable, commandAt, putAt};
+use answers::compared_code;
 use lines::COMPARE;
+use lines::CONFLICT;
 use lines::Command;
 use lines::FORK;
 use lines::JOIN;
 use lines::SPARE;
 use lines::UPDATE;
 use rules::Record;
+use rules::Standing;
 
 // What a letter that is none is answered: refusal 11.
 const UNREAD: u64 = 1011;
 
-// One command: the number of its answer. A letter that is none does nothing and is refused.
-pub fn serve(t: &mut [Record], op: u64, a: usize, b: usize) -> u64
-    ensures { λ r. ⌜ (r ≡ answerNumber narrow (now (t .entry)) (meant (command op a b)))
+// One command, with its answer. A letter that is none does nothing and is refused.
+pub fn serve(t: &mut [Record], op: u64, a: usize, b: usize) -> Command
+    ensures { λ r. ⌜ (r ≡ answer narrow (now (t .entry)) (command op a b))
         × (now (t .exit) ≡ lineTable narrow (now (t .entry)) (meant (command op a b))) ⌝ }
 {
     let n = tell(t, op, a, b);
     change(t, op, a, b, n)
 }
 
-// All commands that the buffer holds, one after the other, from a table by value: each answer's number goes in the place of the
-// first slot. The table that is left. Callers of this one need no walk.
+// All commands that the buffer holds, one after the other, from a table by value: each gives way to itself with its answer. The table
+// that is left. Callers of this one need no walk.
 pub fn run(commands: &mut [u64], table: [Record; 32]) -> [Record; 32]
     ensures { λ r. ⌜ (r ≡ ranTable table (now (commands .entry))) × (now (commands .exit) ≡ ranIn table (now (commands .entry))) ⌝ }
 {
@@ -59,33 +62,58 @@ fn made_fresh(table: [Record; 32]) -> [Record; 32]
     t
 }
 
-// What a command that only reads answers; refusal 11 to any other.
-fn tell(t: &[Record], op: u64, a: usize, b: usize) -> u64
-    ensures { λ r. ⌜ r ≡ toldNumber (now (t .entry)) op a b ⌝ }
+// A command that only reads, with its answer; refusal 11 to any other.
+fn tell(t: &[Record], op: u64, a: usize, b: usize) -> Command
+    ensures { λ r. ⌜ r ≡ toldBy (now (t .entry)) op a b ⌝ }
 {
     if op == COMPARE {
-        return tables::compare(t, a, b);
+        return stood(tables::compare(t, a, b), b);
     }
     if op == SPARE {
-        return tables::spare(t, a);
+        return numbered(op, tables::spare(t, a), b);
     }
-    UNREAD
+    numbered(op, UNREAD, b)
 }
 
-// What a command that changes the table answers; n to any other.
-fn change(t: &mut [Record], op: u64, a: usize, b: usize, n: u64) -> u64
-    ensures { λ r. ⌜ (r ≡ changedNumber (now (t .entry)) op a b n) × (now (t .exit) ≡ changedTable (now (t .entry)) op a b) ⌝ }
+// A command that changes the table, with its answer; n to any other.
+fn change(t: &mut [Record], op: u64, a: usize, b: usize, n: Command) -> Command
+    ensures { λ r. ⌜ (r ≡ changedBy (now (t .entry)) op a b n) × (now (t .exit) ≡ changedTable (now (t .entry)) op a b) ⌝ }
 {
     if op == UPDATE {
-        return tables::update(t, a);
+        return numbered(op, tables::update(t, a), b);
     }
     if op == FORK {
-        return tables::fork(t, a);
+        return numbered(op, tables::fork(t, a), b);
     }
     if op == JOIN {
-        return tables::join(t, a, b);
+        return numbered(op, tables::join(t, a, b), b);
     }
     n
+}
+
+// A command with the number of its answer in the place of the first slot.
+fn numbered(op: u64, n: u64, b: usize) -> Command
+    ensures { λ r. ⌜ r ≡ record { op = op; a = n; b = b } ⌝ }
+{
+    Command {
+        op: op,
+        a: n as usize,
+        b: b,
+    }
+}
+
+// A compare with its answer: its number, or of a conflict the words of both uncovered strings.
+fn stood(s: Standing, b: usize) -> Command
+    ensures { λ r. ⌜ r ≡ stood (command 67 0 b) s ⌝ }
+{
+    match s {
+        Standing::Conflict(x, y) => Command {
+            op: CONFLICT,
+            a: x.word as usize,
+            b: y.word as usize,
+        },
+        _ => numbered(COMPARE, compared_code(s), b),
+    }
 }
 
 // The k-th command of a buffer, if there is one.
@@ -103,12 +131,14 @@ fn command_at(commands: &[u64], k: usize) -> Command
     Command { op: 0, a: 0, b: 0 }
 }
 
-// A number in the place of the k-th command's first slot, if there is one.
-fn put_at(commands: &mut [u64], k: usize, d: u64) -> u64
-    ensures { λ r. ⌜ (r ≡ d) × (now (commands .exit) ≡ putAt (now (commands .entry)) k d) ⌝ }
+// A command in the place of the k-th, if there is one.
+fn put_at(commands: &mut [u64], k: usize, c: Command)
+    ensures { ⌜ now (commands .exit) ≡ putAt (now (commands .entry)) k c ⌝ }
 {
     if k < commands.len() / 3 {
-        commands[3 * k + 1] = d;
+        let i = 3 * k;
+        commands[i] = c.op;
+        commands[i + 1] = c.a as u64;
+        commands[i + 2] = c.b as u64;
     }
-    d
 }

@@ -3,19 +3,22 @@
 -- answers are the rules' own.
 use mathlib.Core.Bool.{Bool, true, false, cond, not, _&&_, _||_}
 use mathlib.Core.List.{List, [], _∷_, map}
-use Prim.Native.Nat.{ℕ}
-use lib.Dec.{eqb, ltb}
-use lib.ListN.{length, take}
+use Prim.Native.Nat.{ℕ, zero, suc}
+use lib.Dec.{eqb, leb, ltb}
+use lib.ListN.{length, take, drop, getD}
 use Rattle.rules.specs.Limits.{narrow}
 use Rattle.rules.specs.Strings.{siblings, strOf}
 use Rattle.rules.specs.Names.{Name, any}
 use Rattle.rules.specs.Stamps.{verdict}
 use Rattle.rules.specs.Refusals.{first}
-use Rattle.rules.specs.Values.{told}
+use Rattle.rules.specs.Values.{placed}
 use Rattle.rules.specs.declared.Words.{Words}
 use Rattle.rules.specs.declared.Refusal.the-variants.{Overlap, Unseen}
 use Rattle.rules.specs.declared.Answer.{Answer}
-use Rattle.rules.specs.declared.Compared.{Compared}
+use Rattle.rules.specs.declared.Answer.the-variants.{Done, Refused}
+use Rattle.rules.specs.declared.Compared.the-variants.{Is}
+use Rattle.rules.specs.declared.Uncovered.{Uncovered}
+use Rattle.rules.specs.declared.Standing.{Standing}
 use Rattle.strings.specs.Words.{begins}
 
 -- the words that a record counts
@@ -40,6 +43,15 @@ heads s (t ∷ n) = begins s t
 unfoldable pub belowWalk : List ℕ → List ℕ → Bool
 belowWalk [] n = true
 belowWalk (s ∷ m) n = heads s (atLeast s n) && belowWalk m (atLeast s n)
+
+-- the place of the first string of m that is not; as many as m has where there is none
+unfoldable pub uncoveredWalk : List ℕ → List ℕ → ℕ
+uncoveredWalk [] n = zero
+uncoveredWalk (s ∷ m) n = cond (heads s (atLeast s n)) (suc (uncoveredWalk m (atLeast s n))) zero
+
+-- the string of m at a place
+abbrev pub stringAt : List ℕ → ℕ → Uncovered
+stringAt m p = record { place = p; word = getD m p 0 }
 
 -- some string of u is so in i, and is not in v: only then is v walked
 unfoldable pub unknownWalk : List ℕ → List ℕ → List ℕ → Bool
@@ -69,10 +81,22 @@ isLong n = any (λ s. eqb (length (strOf s)) (narrow .digits)) n
 
 -- ---- two stamps that meet: u and i are the first's update and id, v and j the second's
 
+-- what 9 asks of u: its strings before the first uncovered one are known
+abbrev pub unknownIn : List ℕ → List ℕ → List ℕ → Bool
+unknownIn u i v = unknownWalk (drop (uncoveredWalk u v) u) i v
+
 -- 8, then 9
 unfoldable pub meetWalk : List ℕ → List ℕ → List ℕ → List ℕ → Answer
-meetWalk u i v j = first ((overlapWalk i j, Overlap) ∷ (unknownWalk u j v || unknownWalk v i u, Unseen) ∷ [])
+meetWalk u i v j = first ((overlapWalk i j, Overlap) ∷ (unknownIn u j v || unknownIn v i u, Unseen) ∷ [])
+
+-- how u stands to v, where p and q are the places of their first uncovered strings
+unfoldable pub judgedBy : List ℕ → ℕ → List ℕ → ℕ → Standing
+judgedBy u p v q = placed (Is (verdict (leb (length u) p) (leb (length v) q))) (stringAt u p) (stringAt v q)
+
+abbrev pub standAfter : Answer → Standing → Standing
+standAfter Done s = s
+standAfter (Refused r) s = Standing.Refused r
 
 -- how the first stands to the second, where they are not refused
-unfoldable pub compareWalk : List ℕ → List ℕ → List ℕ → List ℕ → Compared
-compareWalk u i v j = told (meetWalk u i v j) (verdict (belowWalk u v) (belowWalk v u))
+unfoldable pub compareWalk : List ℕ → List ℕ → List ℕ → List ℕ → Standing
+compareWalk u i v j = standAfter (meetWalk u i v j) (judgedBy u (uncoveredWalk u v) v (uncoveredWalk v u))

@@ -1,13 +1,13 @@
-// Names as lent words in rising order: below, what 8 and 9 ask, siblings, and the longest strings, each by one walk. And of the words of two stamps,
+// Names as lent words in rising order: below and the first uncovered string, what 8 and 9 ask, siblings, and the longest strings, each by one walk. And of the words of two stamps,
 // each of an update and an id: what they are refused for where they meet, and how they stand.
 ghost use mathlib.Core.Path.{_≡_};
 ghost use lib.ListN.{drop};
-ghost use Rattle.rules.specs.Stamps.{verdict};
-ghost use Rattle.walks.specs.Walks.{atLeast, belowWalk, overlapWalk, unknownWalk, hasTwins, isLong, meetWalk, compareWalk};
+ghost use Rattle.walks.specs.Walks.{atLeast, belowWalk, uncoveredWalk, overlapWalk, unknownWalk, hasTwins, isLong, meetWalk, compareWalk};
+ghost use Rattle.walks.specs.Walks.{judgedBy};
 use rules::Answer;
-use rules::Compared;
 use rules::Refusal;
-use rules::Verdict;
+use rules::Standing;
+use rules::Uncovered;
 use strings::DIGITS;
 use strings::are_siblings;
 use strings::begins;
@@ -16,41 +16,48 @@ use strings::begins;
 pub fn meet<'a>(u: &'a [u64], i: &'a [u64], v: &'a [u64], j: &'a [u64]) -> Answer
     ensures { λ r. ⌜ r ≡ meetWalk (now (u .entry)) (now (i .entry)) (now (v .entry)) (now (j .entry)) ⌝ }
 {
-    if is_overlapping(i, j) {
-        return Answer::Refused(Refusal::Overlap);
+    let s = compare(u, i, v, j);
+    match s {
+        Standing::Refused(r) => Answer::Refused(r),
+        _ => Answer::Done,
     }
-    if is_unknown(u, j, v) {
-        return Answer::Refused(Refusal::Unseen);
-    }
-    if is_unknown(v, i, u) {
-        return Answer::Refused(Refusal::Unseen);
-    }
-    Answer::Done
 }
 
 // How the first stands to the second, or what the two are refused for.
-pub fn compare<'a>(u: &'a [u64], i: &'a [u64], v: &'a [u64], j: &'a [u64]) -> Compared
+pub fn compare<'a>(u: &'a [u64], i: &'a [u64], v: &'a [u64], j: &'a [u64]) -> Standing
     ensures { λ r. ⌜ r ≡ compareWalk (now (u .entry)) (now (i .entry)) (now (v .entry)) (now (j .entry)) ⌝ }
 {
-    let m = meet(u, i, v, j);
-    match m {
-        Answer::Refused(r) => Compared::Refused(r),
-        Answer::Done => Compared::Is(judged(u, v)),
+    if is_overlapping(i, j) {
+        return Standing::Refused(Refusal::Overlap);
     }
+    let p = uncovered(u, v);
+    if is_unknown(&u[p..], j, v) {
+        return Standing::Refused(Refusal::Unseen);
+    }
+    let q = uncovered(v, u);
+    if is_unknown(&v[q..], i, u) {
+        return Standing::Refused(Refusal::Unseen);
+    }
+    judged(u, p, v, q)
 }
 
-// Whether each string of m is a prefix of some string of n: the first that none extends decides.
+// Whether each string of m is a prefix of some string of n.
 pub fn is_below(m: &[u64], n: &[u64]) -> bool
     ensures { λ r. ⌜ r ≡ belowWalk (now (m .entry)) (now (n .entry)) ⌝ }
 {
-    let mut ok = true;
+    uncovered(m, n) == m.len()
+}
+
+// The place of the first string of m that no string of n extends; as many as m has where there is none.
+pub fn uncovered(m: &[u64], n: &[u64]) -> usize
+    ensures { λ r. ⌜ r ≡ uncoveredWalk (now (m .entry)) (now (n .entry)) ⌝ }
+{
     let mut i = 0;
     let mut j = 0;
     'each: while i < m.len() {
         let s = m[i];
         loop {
             if n.len() <= j {
-                ok = false;
                 break 'each;
             }
             if s <= n[j] {
@@ -59,12 +66,11 @@ pub fn is_below(m: &[u64], n: &[u64]) -> bool
             j += 1;
         }
         if !begins(s, n[j]) {
-            ok = false;
             break 'each;
         }
         i += 1;
     }
-    ok
+    i
 }
 
 // Whether a string of one is a prefix of a string of the other: one merge of both, where the lower word is held against the other and passed.
@@ -134,10 +140,7 @@ fn is_unknown(u: &[u64], i: &[u64], v: &[u64]) -> bool
         }
         if begins(r, i[b]) {
             c = reach(v, c, r);
-            if v.len() <= c {
-                return true;
-            }
-            if !begins(r, v[c]) {
+            if uncovered(&u[a..a + 1], &v[c..]) == 0 {
                 return true;
             }
         }
@@ -146,20 +149,32 @@ fn is_unknown(u: &[u64], i: &[u64], v: &[u64]) -> bool
     false
 }
 
-// How an update stands to another: below is asked both ways.
-fn judged(u: &[u64], v: &[u64]) -> Verdict
-    ensures { λ r. ⌜ r ≡ verdict (belowWalk (now (u .entry)) (now (v .entry))) (belowWalk (now (v .entry)) (now (u .entry))) ⌝ }
+// How an update stands to another: p and q are the places of their first uncovered strings.
+fn judged(u: &[u64], p: usize, v: &[u64], q: usize) -> Standing
+    ensures { λ r. ⌜ r ≡ judgedBy (now (u .entry)) p (now (v .entry)) q ⌝ }
 {
-    if is_below(u, v) {
-        if is_below(v, u) {
-            return Verdict::Equal;
+    if p < u.len() {
+        let first = Uncovered {
+            place: p,
+            word: u[p],
+        };
+        if q < v.len() {
+            let second = Uncovered {
+                place: q,
+                word: v[q],
+            };
+            return Standing::Conflict(first, second);
         }
-        return Verdict::Obsolete;
+        return Standing::Newer(first);
     }
-    if is_below(v, u) {
-        return Verdict::Newer;
+    if q < v.len() {
+        let second = Uncovered {
+            place: q,
+            word: v[q],
+        };
+        return Standing::Obsolete(second);
     }
-    Verdict::Conflict
+    Standing::Equal
 }
 
 // The first place from `from` on whose word is not below s.
