@@ -1,6 +1,6 @@
 -- Tests and what they say: `any`, `all`, `keep` and `member` as statements about the elements. Assumes nothing.
 use Rattle.laws.proofs.Library.{_≡_, refl, sym, _∙_, subst, Bool, true, false, not, _&&_, _||_, or-true, List, [], _∷_, _++_, _⊎_, inl, inr, ⊎-elim, ℕ}
-use Rattle.laws.proofs.Library.{_≤_, _<_, arith, length, leb, leb-true, leb-false}
+use Rattle.laws.proofs.Library.{suc, _≤_, _<_, arith, length, eqb, leb, eq-eqb, eqb-true, leb-true, leb-false}
 use Rattle.rules.specs.Names.{any, all, keep}
 
 pub no : false ≡ true → ⊥
@@ -51,6 +51,9 @@ is-not p = rw p
 -- one number is at most another, or beyond it
 pub at-most : (m n : ℕ) → (m ≤ n) ⊎ (n < m)
 at-most m n = elim (decide (leb m n)) [ inl e ↦ inl (leb-true m n e) | inr e ↦ inr (leb-false m n e) ]
+
+pub eqb-suc : (m n : ℕ) → eqb (suc m) (suc n) ≡ eqb m n
+eqb-suc m n = iff (λ e. eq-eqb m n (omega (arith, eqb-true (suc m) (suc n) e))) (λ e. eq-eqb (suc m) (suc n) (omega (arith, eqb-true m n e)))
 
 -- ---- elements
 

@@ -111,13 +111,6 @@ answered look n t h =
 
 -- ---- the lowest absent slot
 
-eqb-suc : (m n : ℕ) → eqb (suc m) (suc n) ≡ eqb m n
-eqb-suc m n = by (eqb m n) refl
-  where
-    by : (b : Bool) → eqb m n ≡ b → eqb (suc m) (suc n) ≡ b
-    by true e = eq-eqb (suc m) (suc n) (ap suc (eqb-true m n e))
-    by false e = ne-eqb (suc m) (suc n) (λ h. eqb-false m n e (omega arith))
-
 -- the lowest absent slot of a table is its first, or one behind it
 low-hit : (r : Record) (t : Table) → absent narrow r ≡ true → lowest narrow (r ∷ t) ≡ 0
 unfolding lowest

@@ -1,10 +1,11 @@
 -- One word more, as a loop wants it: what each walk says of lists from an index on, by the word that stands there. Assumes nothing.
-use Rattle.laws.proofs.Library.{_≡_, refl, sym, ap, ap₂, _∙_, Bool, false, true, cond, not, _&&_, _||_, List, [], _∷_, _⊎_, ⊎-elim, ℕ, _+_, _-_, _%_, _≤_}
-use Rattle.laws.proofs.Library.{_<_, arith, add-one, lt-ltb, le-ltb, eqb, length, getD, drop, length-drop, drop-of-length-le, drop-cons}
+use Rattle.laws.proofs.Library.{_≡_, refl, sym, ap, ap₂, _∙_, Bool, false, true, cond, not, _&&_, _||_, List, [], _∷_, _⊎_, ⊎-elim, ℕ, zero, suc, _+_, _-_, _%_, _≤_}
+use Rattle.laws.proofs.Library.{_<_, arith, add-one, lt-ltb, le-ltb, ltb-true, ne-eqb, le-leb, eqb-true, eq-eqb, leb-true, eqb, leb, ltb, length, getD, take, drop, length-drop, drop-of-length-le, drop-cons}
 use Rattle.rules.specs.Strings.{siblings, strOf}
 use Rattle.rules.specs.Names.{any}
 use Rattle.strings.specs.Words.{begins}
-use Rattle.walks.specs.Walks.{atLeast, heads, belowWalk, overlapFrom, overlapWalk, unknownWalk, hasTwins, isLong}
+use Rattle.walks.specs.Walks.{atLeast, heads, belowWalk, uncoveredWalk, overlapFrom, overlapWalk, unknownWalk, hasTwins, isLong}
+use Rattle.laws.proofs.Tests.{iff, eqb-suc}
 use Rattle.laws.proofs.Words.{str-length}
 
 -- the words from i on: the one at i, and those from i + 1 on
@@ -40,31 +41,79 @@ module _ (s : ℕ) (n : List ℕ) (j : ℕ) where
   unfolding heads
   heads-none h = ap (heads s) (from-end n j h)
 
--- ---- below
+-- what is passed for s is passed for any word not below s
+pub skip : (s r : ℕ) (n : List ℕ) → s ≤ r → atLeast r (atLeast s n) ≡ atLeast r n
+unfolding atLeast
+skip s r [] h = refl
+skip s r (t ∷ n) h = by (ltb t s) refl (skip s r n h)
+  where
+    by : (b : Bool) → ltb t s ≡ b → atLeast r (atLeast s n) ≡ atLeast r n → atLeast r (cond b (atLeast s n) (t ∷ n)) ≡ atLeast r (t ∷ n)
+    by true e ih = ih ∙ rw (lt-ltb t r (omega (arith, ltb-true t s e)))
+    by false e ih = refl
+
+-- ---- the first uncovered string
 
 -- s is asked of the first word of l, and then the strings of m
-abbrev pub belowFrom : ℕ → List ℕ → List ℕ → Bool
-belowFrom s m l = heads s l && belowWalk m l
+abbrev pub uncoveredFrom : ℕ → List ℕ → List ℕ → ℕ
+uncoveredFrom s m l = cond (heads s l) (suc (uncoveredWalk m l)) zero
 
 module _ (m : List ℕ) (i : ℕ) (l : List ℕ) where
-  pub below-turn : i < length m → belowFrom (getD m i 0) (drop (i + 1) m) (atLeast (getD m i 0) l) ≡ belowWalk (drop i m) l
-  unfolding belowWalk
-  below-turn h = sym (ap (λ (k : List ℕ). belowWalk k l) (from-cons m i h))
+  pub uncovered-turn : i < length m → uncoveredFrom (getD m i 0) (drop (i + 1) m) (atLeast (getD m i 0) l) ≡ uncoveredWalk (drop i m) l
+  unfolding uncoveredWalk
+  uncovered-turn h = sym (ap (λ (k : List ℕ). uncoveredWalk k l) (from-cons m i h))
 
-  pub below-end : length m ≤ i → belowWalk (drop i m) l ≡ true
-  unfolding belowWalk
-  below-end h = ap (λ (k : List ℕ). belowWalk k l) (from-end m i h)
+  pub uncovered-end : length m ≤ i → uncoveredWalk (drop i m) l ≡ 0
+  unfolding uncoveredWalk
+  uncovered-end h = ap (λ (k : List ℕ). uncoveredWalk k l) (from-end m i h)
 
 module _ (s : ℕ) (m n : List ℕ) (j : ℕ) where
   -- no string is left to extend s
-  pub below-none : length n ≤ j → belowFrom s m (atLeast s (drop j n)) ≡ false
+  pub uncovered-none : length n ≤ j → uncoveredFrom s m (atLeast s (drop j n)) ≡ 0
   unfolding heads
-  below-none h = ap (belowFrom s m) (none-left s n j h)
+  uncovered-none h = ap (uncoveredFrom s m) (none-left s n j h)
 
   -- the string at j extends s, or does not
-  pub below-at : (b : Bool) → j < length n → s ≤ getD n j 0 → begins s (getD n j 0) ≡ b
-      → belowFrom s m (atLeast s (drop j n)) ≡ (b && belowWalk m (drop j n))
-  below-at b h l e = ap (belowFrom s m) (stays s n j h l) ∙ ap (λ (x : Bool). x && belowWalk m (drop j n)) (heads-at s n j h ∙ e)
+  pub uncovered-at : (b : Bool) → j < length n → s ≤ getD n j 0 → begins s (getD n j 0) ≡ b
+      → uncoveredFrom s m (atLeast s (drop j n)) ≡ cond b (suc (uncoveredWalk m (drop j n))) zero
+  uncovered-at b h l e = ap (uncoveredFrom s m) (stays s n j h l) ∙ ap (λ (x : Bool). cond x (suc (uncoveredWalk m (drop j n))) zero) (heads-at s n j h ∙ e)
+
+-- a place lies in m or at its end, and at its end where m is below n
+pub uncovered-le : (m n : List ℕ) → uncoveredWalk m n ≤ length m
+unfolding uncoveredWalk
+uncovered-le [] n = omega arith
+uncovered-le (s ∷ m) n = by (heads s (atLeast s n)) (uncovered-le m (atLeast s n))
+  where
+    by : (b : Bool) → uncoveredWalk m (atLeast s n) ≤ length m → cond b (suc (uncoveredWalk m (atLeast s n))) zero ≤ suc (length m)
+    by true h = omega arith
+    by false h = omega arith
+
+pub below-uncovered : (m n : List ℕ) → belowWalk m n ≡ eqb (uncoveredWalk m n) (length m)
+unfolding belowWalk uncoveredWalk
+below-uncovered [] n = refl
+below-uncovered (s ∷ m) n = by (heads s (atLeast s n)) (below-uncovered m (atLeast s n))
+  where
+    by : (b : Bool) → belowWalk m (atLeast s n) ≡ eqb (uncoveredWalk m (atLeast s n)) (length m)
+        → (b && belowWalk m (atLeast s n)) ≡ eqb (cond b (suc (uncoveredWalk m (atLeast s n))) zero) (suc (length m))
+    by true h = h ∙ sym (eqb-suc (uncoveredWalk m (atLeast s n)) (length m))
+    by false h = sym (ne-eqb 0 (suc (length m)) (λ e. omega arith))
+
+pub below-least : (m n : List ℕ) → belowWalk m n ≡ leb (length m) (uncoveredWalk m n)
+below-least m n =
+    below-uncovered m n
+    ∙ iff (λ e. le-leb _ _ (omega (arith, eqb-true (uncoveredWalk m n) (length m) e)))
+    (λ e. eq-eqb _ _ (omega (arith, leb-true (length m) (uncoveredWalk m n) e, uncovered-le m n)))
+
+-- one string, asked of the words of n that are not below it
+pub below-one : (m n : List ℕ) (i k : ℕ) (l : List ℕ) → i < length m → drop k n ≡ atLeast (getD m i 0) l
+    → belowWalk (take (i + 1 - i) (drop i m)) (drop k n) ≡ heads (getD m i 0) (drop k n)
+unfolding belowWalk
+below-one m n i k l h e =
+    let one : i + 1 - i ≡ 1 = omega arith in
+    rw (one, from-cons m i h, e, skip (getD m i 0) (getD m i 0) l (omega arith)) (and-true (heads (getD m i 0) (atLeast (getD m i 0) l)))
+  where
+    and-true : (b : Bool) → (b && true) ≡ b
+    and-true true = refl
+    and-true false = refl
 
 -- ---- overlapping
 
@@ -164,17 +213,14 @@ module _ (u i v : List ℕ) (a b c : ℕ) (h : a < length u) (j : ℕ) (e : drop
       abbrev then : Bool → Bool
       then x = not x || unknownWalk (drop (a + 1) u) (drop j i) (drop k v)
 
-      -- no string of v is left, or the next does not extend it
-      pub unknown-left : length v ≤ k → unknownWalk (drop a u) (drop b i) (drop c v) ≡ true
-      unknown-left o = unknown-at ∙ ap then (heads-none asked v k o)
-
-      pub unknown-found : k < length v → begins asked (getD v k 0) ≡ false → unknownWalk (drop a u) (drop b i) (drop c v) ≡ true
-      unknown-found o p = unknown-at ∙ ap then (heads-at asked v k o ∙ p)
+      -- no string of v extends it
+      pub unknown-found : heads asked (drop k v) ≡ false → unknownWalk (drop a u) (drop b i) (drop c v) ≡ true
+      unknown-found p = unknown-at ∙ ap then p
 
       -- it is known
-      pub unknown-known : k < length v → begins asked (getD v k 0) ≡ true
+      pub unknown-known : heads asked (drop k v) ≡ true
           → unknownWalk (drop a u) (drop b i) (drop c v) ≡ unknownWalk (drop (a + 1) u) (drop j i) (drop k v)
-      unknown-known o p = unknown-at ∙ ap then (heads-at asked v k o ∙ p)
+      unknown-known p = unknown-at ∙ ap then p
 
 -- ---- twins
 

@@ -1,10 +1,10 @@
 -- What the walks tell of names: on words of strings in rising order they are the rules' own questions. The words passed are below s, so none
 -- of them extends it; of those left, the first extends s or comes after it, and then so do all. Assumes nothing.
 use Rattle.laws.proofs.Library.{_≡_, refl, sym, ap, ap₂, _∙_, subst, Bool, true, false, cond, not, _&&_, _||_, List, [], _∷_, dropLast, inl, inr, ⊎-elim}
-use Rattle.laws.proofs.Library.{Option, some, ℕ, _≤_, _<_, arith, lt-ltb, ltb-true, ltb-false, eqb, ltb, length}
+use Rattle.laws.proofs.Library.{Option, some, ℕ, zero, suc, _≤_, _<_, arith, lt-ltb, ltb-true, ltb-false, eqb, ltb, length, drop}
 use Rattle.rules.specs.Limits.{narrow}
 use Rattle.rules.specs.Strings.{Str, prefix, less, siblings, strOf, isWord}
-use Rattle.rules.specs.Names.{Name, any, all, rising, covered, below}
+use Rattle.rules.specs.Names.{Name, any, all, rising, covered, below, uncovered}
 use Rattle.rules.specs.Stamps.{pair, isNone}
 use Rattle.rules.specs.Refusals.{touches, unknownTo}
 use Rattle.laws.proofs.Tests.{not-true, and-left, and-right, In, none-any}
@@ -13,17 +13,8 @@ use Rattle.laws.proofs.Pairs.{firstTwins, neighbour-pair}
 use Rattle.strings.specs.Words.{begins}
 use Rattle.strings.proofs.Order.{prefix-le, less-lt, le-less}
 use Rattle.strings.proofs.Fronts.{begins-prefix}
-use Rattle.walks.specs.Walks.{strs, atLeast, heads, belowWalk, overlapFrom, overlapWalk, unknownWalk, hasTwins, isLong}
-
--- what is passed for s is passed for any word not below s
-skip : (s r : ℕ) (n : List ℕ) → s ≤ r → atLeast r (atLeast s n) ≡ atLeast r n
-unfolding atLeast
-skip s r [] h = refl
-skip s r (t ∷ n) h = by (ltb t s) refl (skip s r n h)
-  where
-    by : (b : Bool) → ltb t s ≡ b → atLeast r (atLeast s n) ≡ atLeast r n → atLeast r (cond b (atLeast s n) (t ∷ n)) ≡ atLeast r (t ∷ n)
-    by true e ih = ih ∙ rw (lt-ltb t r (omega (arith, ltb-true t s e)))
-    by false e ih = refl
+use Rattle.walks.specs.Walks.{strs, atLeast, heads, belowWalk, uncoveredWalk, overlapFrom, overlapWalk, unknownWalk, unknownIn, hasTwins, isLong}
+use Rattle.walks.proofs.Steps.{skip}
 
 -- ---- names of which one string comes before all of the other
 
@@ -76,6 +67,11 @@ module _ (s : ℕ) where
   unfolding belowWalk
   below-skip [] n f = refl
   below-skip (r ∷ m) n f = ap (λ (l : List ℕ). heads r l && belowWalk m l) (skip s r n f)
+
+  uncovered-skip : (m n : List ℕ) → From s m → uncoveredWalk m (atLeast s n) ≡ uncoveredWalk m n
+  unfolding uncoveredWalk
+  uncovered-skip [] n f = refl
+  uncovered-skip (r ∷ m) n f = ap (λ (l : List ℕ). cond (heads r l) (suc (uncoveredWalk m l)) zero) (skip s r n f)
 
   unknown-skip : (u i v : List ℕ) → From s u → unknownWalk u (atLeast s i) v ≡ unknownWalk u i v
   unfolding unknownWalk
@@ -138,6 +134,14 @@ module _ (most : ℕ) (small : most ≤ 58) where
       ap₂ _&&_ (covered-heads s n (words-head s m v) w k)
       (below-skip s m n (rising-from s m v h) ∙ below-walk m n (words-tail s m v) w (rising-tail (strOf s) (strs m) h) k)
 
+  pub uncovered-walk : (m n : List ℕ) → all (isWord most) m ≡ true → all (isWord most) n ≡ true → rising (strs m) ≡ true → rising (strs n) ≡ true
+      → uncoveredWalk m n ≡ uncovered (strs m) (strs n)
+  unfolding uncoveredWalk uncovered
+  uncovered-walk [] n v w h k = refl
+  uncovered-walk (s ∷ m) n v w h k =
+      ap₂ (λ (b : Bool) (p : ℕ). cond b (suc p) zero) (covered-heads s n (words-head s m v) w k)
+      (uncovered-skip s m n (rising-from s m v h) ∙ uncovered-walk m n (words-tail s m v) w (rising-tail (strOf s) (strs m) h) k)
+
   -- what the walk of v has passed for s makes no difference to strings that are not below s
   unknown-later : (s : ℕ) (u i v : List ℕ) → Words u → rising (strs u) ≡ true → From s u → unknownWalk u i (atLeast s v) ≡ unknownWalk u i v
   unfolding unknownWalk
@@ -162,6 +166,28 @@ module _ (most : ℕ) (small : most ≤ 58) where
       by true true ih = unknown-later r u (atLeast r i) v (words-tail r u wu) (rising-tail (strOf r) (strs u) hu) (rising-from r u wu hu) ∙ ih
       by true false ih = refl
       by false y ih = ih
+
+  -- strings that v covers are not unknown, so those before the first uncovered one need not be asked
+  pub unknown-in : (u i v : List ℕ) → all (isWord most) u ≡ true → all (isWord most) i ≡ true → all (isWord most) v ≡ true
+      → rising (strs u) ≡ true → rising (strs i) ≡ true → rising (strs v) ≡ true → unknownIn u i v ≡ unknownTo (strs u) (strs i) (strs v)
+  unfolding uncoveredWalk unknownTo any
+  unknown-in [] i v wu wi wv hu hi hv = unknown-walk [] i v wu wi wv hu hi hv
+  unknown-in (r ∷ u) i v wu wi wv hu hi hv =
+      by (heads r (atLeast r v)) refl (unknown-in u i v (words-tail r u wu) wi wv (rising-tail (strOf r) (strs u) hu) hi hv)
+    where
+      and-none : (x y : Bool) → ((x && false) || y) ≡ y
+      and-none true y = refl
+      and-none false y = refl
+
+      by : (b : Bool) → heads r (atLeast r v) ≡ b → unknownIn u i v ≡ unknownTo (strs u) (strs i) (strs v)
+          → unknownWalk (drop (cond b (suc (uncoveredWalk u (atLeast r v))) zero) (r ∷ u)) i v ≡ unknownTo (strs (r ∷ u)) (strs i) (strs v)
+      by true e ih =
+          ap (λ (p : ℕ). unknownWalk (drop p u) i v) (uncovered-skip r u v (rising-from r u wu hu))
+          ∙ ih
+          ∙ sym
+          (ap (λ (b : Bool). (covered (strOf r) (strs i) && not b) || unknownTo (strs u) (strs i) (strs v))
+          (sym (covered-heads r v (words-head r u wu) wv hv) ∙ e) ∙ and-none (covered (strOf r) (strs i)) (unknownTo (strs u) (strs i) (strs v)))
+      by false e ih = unknown-walk (r ∷ u) i v wu wi wv hu hi hv
 
   -- one that comes before the first of n comes before all
   before-all : (s : Str) (t : Str) (n : Name) → less s t ≡ true → rising (t ∷ n) ≡ true → (x : Str) → In x (t ∷ n) → less s x ≡ true

@@ -1,7 +1,8 @@
 // Names as lent words in rising order: below and the first uncovered string, what 8 and 9 ask, siblings, and the longest strings, each by one walk. And of the words of two stamps,
 // each of an update and an id: what they are refused for where they meet, and how they stand.
 ghost use mathlib.Core.Path.{_≡_};
-ghost use lib.ListN.{drop};
+ghost use Prim.Native.Nat.{_≤_};
+ghost use lib.ListN.{length, drop};
 ghost use Rattle.walks.specs.Walks.{atLeast, belowWalk, uncoveredWalk, overlapWalk, unknownWalk, hasTwins, isLong, meetWalk, compareWalk};
 ghost use Rattle.walks.specs.Walks.{judgedBy};
 use rules::Answer;
@@ -140,7 +141,7 @@ fn is_unknown(u: &[u64], i: &[u64], v: &[u64]) -> bool
         }
         if begins(r, i[b]) {
             c = reach(v, c, r);
-            if uncovered(&u[a..a + 1], &v[c..]) == 0 {
+            if !is_below(&u[a..a + 1], &v[c..]) {
                 return true;
             }
         }
@@ -179,7 +180,8 @@ fn judged(u: &[u64], p: usize, v: &[u64], q: usize) -> Standing
 
 // The first place from `from` on whose word is not below s.
 fn reach(n: &[u64], from: usize, s: u64) -> usize
-    ensures { λ r. ⌜ drop r (now (n .entry)) ≡ atLeast s (drop from (now (n .entry))) ⌝ }
+    ensures { λ r. ⌜ (drop r (now (n .entry)) ≡ atLeast s (drop from (now (n .entry))))
+        × (from ≤ length (now (n .entry)) → r ≤ length (now (n .entry))) ⌝ }
 {
     let mut j = from;
     while j < n.len() {
