@@ -18,3 +18,4 @@ pub mod Fork
 pub mod Lawful
 pub mod Library
 pub mod Stored
+pub mod Standing

@@ -1,6 +1,6 @@
 -- Tests and what they say: `any`, `all`, `keep` and `member` as statements about the elements. Assumes nothing.
 use Rattle.laws.proofs.Library.{_≡_, refl, sym, _∙_, subst, Bool, true, false, not, _&&_, _||_, or-true, List, [], _∷_, _++_, _⊎_, inl, inr, ⊎-elim, ℕ}
-use Rattle.laws.proofs.Library.{suc, _≤_, _<_, arith, length, eqb, leb, eq-eqb, eqb-true, leb-true, leb-false}
+use Rattle.laws.proofs.Library.{zero, suc, _≤_, _<_, le-of-suc-le-suc, arith, length, getD, eqb, leb, eq-eqb, eqb-true, leb-true, leb-false}
 use Rattle.rules.specs.Names.{any, all, keep}
 
 pub no : false ≡ true → ⊥
@@ -79,6 +79,12 @@ module _ {A : Type 0} where
   pub in-filled : (x : A) (l : List A) → In x l → 1 ≤ length l
   in-filled x [] i = absurd i
   in-filled x (y ∷ l) i = omega arith
+
+  -- what stands at a place is an element
+  pub in-getD : (l : List A) (k : ℕ) (d : A) → k < length l → In (getD l k d) l
+  in-getD [] k d h = absurd (omega arith)
+  in-getD (x ∷ l) zero d h = inl refl
+  in-getD (x ∷ l) (suc k) d h = inr (in-getD l k d (le-of-suc-le-suc h))
 
   -- some element passes p
   pub record Some (p : A → Bool) (l : List A) : Type 0 where

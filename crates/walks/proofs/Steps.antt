@@ -100,8 +100,8 @@ below-uncovered (s ∷ m) n = by (heads s (atLeast s n)) (below-uncovered m (atL
 pub below-least : (m n : List ℕ) → belowWalk m n ≡ leb (length m) (uncoveredWalk m n)
 below-least m n =
     below-uncovered m n
-    ∙ iff (λ e. le-leb _ _ (omega (arith, eqb-true (uncoveredWalk m n) (length m) e)))
-    (λ e. eq-eqb _ _ (omega (arith, leb-true (length m) (uncoveredWalk m n) e, uncovered-le m n)))
+    ∙ iff (λ e. le-leb (length m) (uncoveredWalk m n) (omega (arith, eqb-true (uncoveredWalk m n) (length m) e)))
+    (λ e. eq-eqb (uncoveredWalk m n) (length m) (omega (arith, leb-true (length m) (uncoveredWalk m n) e, uncovered-le m n)))
 
 -- one string, asked of the words of n that are not below it
 pub below-one : (m n : List ℕ) (i k : ℕ) (l : List ℕ) → i < length m → drop k n ≡ atLeast (getD m i 0) l

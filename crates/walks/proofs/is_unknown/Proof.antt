@@ -23,10 +23,42 @@ returns c =
     ∙ l .loop .inv .0
 
 returns-2 : tie.Need-returns-2 Inv-loop μ-loop
-returns-2 c = ?
+returns-2 c =
+    let o = c .before in
+    let k = o .before .before .before .before .before in
+    let x = k .before .before in
+    let s = x .before .before .before in
+    let l = s .before .before .before in
+    let g = l .before .before .before .before .args in
+    sym
+    (unknown-found (g .u .now) (g .i .now) (g .v .now) (l .loop .a) (l .loop .b) (l .loop .c) (omega arith) (s .reach .result) (s .reach .ensures .0)
+    (x .before .before .if1 .left) (sym (x .begins .ensures) ∙ k .before .if2 .taken) (k .reach2 .result) (k .reach2 .ensures .0)
+    (sym (below-one (g .u .now) (g .v .now) (l .loop .a) (k .reach2 .result) (drop (l .loop .c) (g .v .now)) (omega arith) (k .reach2 .ensures .0))
+    ∙ sym (o .is-below .ensures) ∙ not-true (o .is-below .result) (c .if3 .taken)))
+    ∙ l .loop .inv .0
 
 loop-again : tie.Need-loop-again Inv-loop μ-loop
-loop-again c = ?
+loop-again c =
+    let x = c .before in
+    let s = x .before .before .before in
+    let l = s .before .before .before in
+    let g = l .before .before .before .before .args in
+    let u = g .u .now in
+    let i = g .i .now in
+    let v = g .v .now in
+    let a = l .loop .a in
+    let j = s .reach .result in
+    ⊎-elim
+    (λ w. ?)
+    (λ w. (
+      ap (λ (x : ℕ). unknownWalk (drop (a + 1) u) (drop j i) (drop x v)) (w .1)
+      ∙ sym
+      (unknown-passed u i v a (l .loop .b) (l .loop .c) (omega arith) j (s .reach .ensures .0) (x .before .before .if1 .left)
+      (sym (x .begins .ensures) ∙ w .0 .left))
+      ∙ l .loop .inv .0,
+      ?,
+    ))
+    (c .if2 .came)
 
 returns-3 : tie.Need-returns-3 Inv-loop μ-loop
 returns-3 c =
