@@ -1,6 +1,6 @@
 -- One word more, as a loop wants it: what each walk says of lists from an index on, by the word that stands there. Assumes nothing.
 use Rattle.laws.proofs.Library.{_≡_, refl, sym, ap, ap₂, _∙_, Bool, false, true, cond, not, _&&_, _||_, List, [], _∷_, _⊎_, ⊎-elim, ℕ, zero, suc, _+_, _-_, _%_, _≤_}
-use Rattle.laws.proofs.Library.{_<_, arith, add-one, lt-ltb, le-ltb, ltb-true, ne-eqb, le-leb, eqb-true, eq-eqb, leb-true, eqb, leb, ltb, length, getD, take, drop, length-drop, drop-of-length-le, drop-cons}
+use Rattle.laws.proofs.Library.{_<_, arith, add-one, lt-ltb, le-ltb, ltb-true, ne-eqb, le-leb, eqb-true, eq-eqb, leb-true, eqb, leb, ltb, length, getD, take, take-all, drop, length-drop, drop-of-length-le, drop-cons}
 use Rattle.rules.specs.Strings.{siblings, strOf}
 use Rattle.rules.specs.Names.{any}
 use Rattle.strings.specs.Words.{begins}
@@ -14,6 +14,10 @@ from-cons n i h = rw add-one (drop-cons n i 0 h)
 
 pub from-end : (n : List ℕ) (i : ℕ) → length n ≤ i → drop i n ≡ []
 from-end n i h = drop-of-length-le n {i = i} h
+
+-- lent as a part, they are the same
+pub from-all : (n : List ℕ) (i : ℕ) → take (length n - i) (drop i n) ≡ drop i n
+from-all n i = take-all (length n - i) (drop i n) (omega (arith, length-drop i n))
 
 -- ---- a string's place in n
 
@@ -105,11 +109,11 @@ below-least m n =
 
 -- one string, asked of the words of n that are not below it
 pub below-one : (m n : List ℕ) (i k : ℕ) (l : List ℕ) → i < length m → drop k n ≡ atLeast (getD m i 0) l
-    → belowWalk (take (i + 1 - i) (drop i m)) (drop k n) ≡ heads (getD m i 0) (drop k n)
+    → belowWalk (take (i + 1 - i) (drop i m)) (take (length n - k) (drop k n)) ≡ heads (getD m i 0) (drop k n)
 unfolding belowWalk
 below-one m n i k l h e =
     let one : i + 1 - i ≡ 1 = omega arith in
-    rw (one, from-cons m i h, e, skip (getD m i 0) (getD m i 0) l (omega arith)) (and-true (heads (getD m i 0) (atLeast (getD m i 0) l)))
+    rw (one, from-cons m i h, from-all n k, e, skip (getD m i 0) (getD m i 0) l (omega arith)) (and-true (heads (getD m i 0) (atLeast (getD m i 0) l)))
   where
     and-true : (b : Bool) → (b && true) ≡ b
     and-true true = refl

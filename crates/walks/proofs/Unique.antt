@@ -5,6 +5,7 @@ use Rattle.laws.proofs.Contracts.{agree, both-say}
 use Rattle.walks.proofs.meet
 use Rattle.walks.proofs.compare
 use Rattle.walks.proofs.is_below
+use Rattle.walks.proofs.uncovered
 use Rattle.walks.proofs.is_overlapping
 use Rattle.walks.proofs.has_twins
 use Rattle.walks.proofs.is_long
@@ -17,6 +18,9 @@ compare-one-answer M 𝓤 H A mem run = (refl, λ κs a g h r s v w. both-say �
 
 pub is-below-one-answer : OneAnswer is_below.ended (λ M 𝓤. is_below.clauses 𝓤) (λ M 𝓤. is_below.spec 𝓤)
 is-below-one-answer M 𝓤 H A mem run = (refl, λ κs a g h r s v w. both-say 𝓤 (λ e f. (agree e f, refl)))
+
+pub uncovered-one-answer : OneAnswer uncovered.ended (λ M 𝓤. uncovered.clauses 𝓤) (λ M 𝓤. uncovered.spec 𝓤)
+uncovered-one-answer M 𝓤 H A mem run = (refl, λ κs a g h r s v w. both-say 𝓤 (λ e f. (agree e f, refl)))
 
 pub is-overlapping-one-answer : OneAnswer is_overlapping.ended (λ M 𝓤. is_overlapping.clauses 𝓤) (λ M 𝓤. is_overlapping.spec 𝓤)
 is-overlapping-one-answer M 𝓤 H A mem run = (refl, λ κs a g h r s v w. both-say 𝓤 (λ e f. (agree e f, refl)))

@@ -25,7 +25,7 @@ returns c =
 returns-2 : tie.Need-returns-2 Inv-loop μ-loop
 returns-2 c =
     let o = c .before in
-    let k = o .before .before .before .before .before in
+    let k = o .before .before .before in
     let x = k .before .before in
     let s = x .before .before .before in
     let l = s .before .before .before in
@@ -49,14 +49,23 @@ loop-again c =
     let a = l .loop .a in
     let j = s .reach .result in
     ⊎-elim
-    (λ w. ?)
+    (λ w. (
+      ap (λ (x : ℕ). unknownWalk (drop (a + 1) u) (drop j i) (drop x v)) (w .6)
+      ∙ sym
+      (unknown-known u i v a (l .loop .b) (l .loop .c) (omega arith) j (s .reach .ensures .0) (x .before .before .if1 .left)
+      (sym (x .begins .ensures) ∙ w .0 .taken) (w .1 .result) (w .1 .ensures .0)
+      (sym (below-one u v a (w .1 .result) (drop (l .loop .c) v) (omega arith) (w .1 .ensures .0)) ∙ sym (w .4 .ensures)
+      ∙ not-false (w .4 .result) (w .5 .left)))
+      ∙ l .loop .inv .0,
+      omega (arith, w .6, w .1 .ensures .1 (l .loop .inv .1)),
+    ))
     (λ w. (
       ap (λ (x : ℕ). unknownWalk (drop (a + 1) u) (drop j i) (drop x v)) (w .1)
       ∙ sym
       (unknown-passed u i v a (l .loop .b) (l .loop .c) (omega arith) j (s .reach .ensures .0) (x .before .before .if1 .left)
       (sym (x .begins .ensures) ∙ w .0 .left))
       ∙ l .loop .inv .0,
-      ?,
+      omega (arith, w .1, l .loop .inv .1),
     ))
     (c .if2 .came)
 
@@ -69,5 +78,9 @@ returns-3 c =
 pub is-unknown-spec : {M : Type 1} → statement M
 is-unknown-spec = tie.close (tie.spec Inv-loop μ-loop (λ c. (refl, omega arith)) (λ c. search needs) (λ c. search needs) (λ c κs. search needs) returns
     (λ c. search needs) (λ c. search needs) (λ c κs. search needs) (λ c κs. search needs) (λ c. search needs) (λ c. search needs)
-    (λ c. search needs) (λ c. search needs) (λ c. search needs) (λ c. search needs) (λ c. search needs) (λ c. search needs) (λ c. search needs)
+    (λ c. search needs) (λ c. search needs) (λ c. search needs)
+    (λ c. let k = c .before in search (needs, k .reach2 .ensures .1 (k .before .before .before .before .before .before .before .before .loop .inv .1)))
+    (λ c. let k = c .before in search (needs, k .reach2 .ensures .1 (k .before .before .before .before .before .before .before .before .loop .inv .1)))
+    (λ c. let k = c .before in search (needs, k .reach2 .ensures .1 (k .before .before .before .before .before .before .before .before .loop .inv .1)))
+    (λ c. let k = c .before in search (needs, k .reach2 .ensures .1 (k .before .before .before .before .before .before .before .before .loop .inv .1)))
     (λ c κs. search needs) returns-2 (λ c. search needs) (λ c. search needs) loop-again returns-3)
