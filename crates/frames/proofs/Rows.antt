@@ -34,6 +34,9 @@ use denote.Struct.Struct.{Plains, layout}
 use denote.Struct.Declared.{Declared, shape, fields}
 use denote.Struct.Declared as Decl
 use denote.Struct.Laws as LL
+use denote.Enum.Enum
+use denote.Enum.Declared as Choices
+use denote.Enum.Laws as EL
 use denote.Triple.End.{all}
 use denote.Triple.Statement.{Contract, Triple}
 use denote.Triple.Clauses.{Ended, Clauses, closing, ensured, lasts}
@@ -95,6 +98,23 @@ module _ (T : Declared) (L : LL.Laws T) (pl : Plains (fields T)) (cs : LL.Copyab
     lawful = LL.lawful T L;
     copies = LL.copy T cs;
     still = st;
+    small = sm;
+  }
+
+-- a declared enum
+module _ (T : Choices.Declared) (L : EL.Laws T) (pl : Enum.Plainss (Choices.variants T)) (cs : EL.Copyabless (T .parts)) (few : Enum.Few (Choices.shape T))
+    (sm : Holds (ltb (mem (Choices.row T) .size) (2 ^ 64))) where
+  abbrev pub choice : Plainly
+  choice = record {
+    row = Choices.row T;
+    ty = Enum.layout (Choices.shape T);
+    lies = refl;
+    val = EL.val T L;
+    tells = EL.tells T L;
+    makes = λ 𝓤 H A W. EL.makes T pl 𝓤 H A;
+    lawful = λ 𝓤 H A W. EL.lawful T L 𝓤 H A W few;
+    copies = EL.copy T cs;
+    still = EL.still T cs yes;
     small = sm;
   }
 

@@ -30,7 +30,7 @@ pub use denote.Triple.Table.{entered, cited}
 pub use types.Kit.{Given, ‵, Sq, runs, atRet, rewrite, done, _$_, !, by}
 pub use types.Run.{look, and-then, no-more, returns-within, lit, of-opd, bin, returns}
 pub use Rattle.frames.proofs.Frame.{Blocks, envOf, deaths, frame-of, ifs, var, piece, sets, leaves}
-pub use Rattle.frames.proofs.Rows.{Plainly, number, truth, struct, Ins, Gives, calls-by}
+pub use Rattle.frames.proofs.Rows.{Plainly, number, truth, struct, choice, Ins, Gives, calls-by}
 pub use Rattle.frames.proofs.Elems.{fetch, puts, relends}
 pub use Rattle.frames.proofs.Lent.{Says, Closes, Walk, lends, Tells, Shuts, Look, looks}
 pub use Rattle.frames.proofs.Claims.{lends-as, looks-as}
