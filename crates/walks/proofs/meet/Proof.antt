@@ -1,6 +1,6 @@
 -- `walks::meet` meets its contract: two stamps that can be compared are not refused, and a refusal is passed on. Assumes nothing.
-use Rattle.laws.proofs.Library.{needs, _≡_, refl, sym, ap, _∙_, Bool, true, false, List, [], _∷_, ⊎-elim, ℕ, arith, leb, length}
-use types.Run.{OneOf}
+use Rattle.laws.proofs.Library.{needs, _≡_, refl, sym, ap, _∙_, Bool, true, false, List, [], _∷_, ℕ, leb, length}
+use types.Run.{OneOf, miss}
 use denote.Enum.Declared.{tagOf}
 use Rattle.rules.specs.Stamps.{verdict}
 use Rattle.rules.specs.Values.{placed}
@@ -43,7 +43,7 @@ not-refused (Standing.Obsolete y) h = refl
 not-refused (Standing.Newer x) h = refl
 not-refused (Standing.Conflict x y) h = refl
 not-refused (Standing.Refused r) h =
-    absurd (⊎-elim (λ e. omega arith) (λ h. ⊎-elim (λ e. omega arith) (λ h. ⊎-elim (λ e. omega arith) (λ e. omega arith) h) h) h)
+    absurd (miss (0 ∷ 1 ∷ 2 ∷ 3 ∷ []) 4 tt h)
 
 returns : tie.Need-returns
 returns c =
