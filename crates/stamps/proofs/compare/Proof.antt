@@ -3,21 +3,21 @@ use Rattle.laws.proofs.Library.{needs, not-true, not-false, _≡_, sym, ap, _�
 use Rattle.rules.specs.Limits.{narrow}
 use Rattle.rules.specs.Stored.{held, isStored}
 use Rattle.rules.specs.Refusals.{first}
-use Rattle.rules.specs.Values.{told, meeting, compared}
+use Rattle.rules.specs.Values.{told, meeting, compared, standsAs, standing}
 use Rattle.rules.specs.declared.Record.{Record}
 use Rattle.rules.specs.declared.Refusal.the-variants.{Unlawful}
 use Rattle.rules.specs.declared.Answer.{Answer}
 use Rattle.rules.specs.declared.Answer.the-variants.{Refused}
-use Rattle.rules.specs.declared.Compared.the-variants.{Refused as NotCompared}
+use Rattle.rules.specs.declared.Standing.{Standing}
 use Rattle.walks.specs.Walks.{compareWalk}
 use Rattle.walks.proofs.Meets.{compare-walk}
 use Rattle.stamps.proofs.Laws.{first-unlawful, second-unlawful}
 use Rattle.stamps.proofs.compare.Statement.{statement}
 use Rattle.stamps.proofs.compare.Tie as tie
 
-refuses : (a b : Record) → Refused Unlawful ≡ first (meeting narrow a b []) → NotCompared Unlawful ≡ compared narrow a b
-unfolding compared
-refuses a b e = ap (λ (m : Answer). told m (Rattle.rules.specs.Stamps.compare (held a) (held b))) e
+refuses : (a b : Record) → Refused Unlawful ≡ first (meeting narrow a b []) → Standing.Refused Unlawful ≡ standing narrow a b
+unfolding compared standing
+refuses a b e = ap (λ (m : Answer). standsAs (told m (Rattle.rules.specs.Stamps.compare (held a) (held b))) (held a .update) (held b .update)) e
 
 -- both are asked, one after the other
 first-lawful : (c : tie.Else1) → isStored narrow (c .before .before .before .before .before .before .before .args .t1) ≡ true
