@@ -1,49 +1,26 @@
 -- What the calls by value answer, as the table says it: a record that they refuse as unlawful is 12 there. Assumes nothing.
 use Rattle.laws.proofs.Library.{_≡_, refl, sym, ap, _∙_, Bool, true, false, cond, List, [], _∷_, map, ℕ, arith}
 use Rattle.rules.specs.Limits.{narrow}
-use Rattle.rules.specs.Packed.{comparedNumber}
+use Rattle.rules.specs.Names.{Name}
 use Rattle.rules.specs.Stamps.{Stamp, update, fork, join, compare}
 use Rattle.rules.specs.Stored.{stored, held, unlawful, blank}
 use Rattle.rules.specs.Refusals.{andThen, first, long, many}
-use Rattle.rules.specs.Values.{given, branches, meeting, told, updated, forked, joined, compared}
+use Rattle.rules.specs.Values.{given, branches, meeting, told, updated, forked, joined, compared, standsAs, standing}
 use Rattle.rules.specs.declared.Record.{Record}
 use Rattle.rules.specs.declared.Refusal.{Refusal}
-use Rattle.rules.specs.declared.Refusal.the-variants.{Malformed, Unlawful, NoSlot, OneSlot, Full, Long, Many, Overlap, Unseen, Short, Unread, Unfit, Ended}
+use Rattle.rules.specs.declared.Refusal.the-variants.{Unlawful, Full, Long, Many, Unfit}
 use Rattle.rules.specs.declared.Answer.{Answer}
 use Rattle.rules.specs.declared.Answer.the-variants.{Done, Refused}
 use Rattle.rules.specs.declared.Verdict.{Verdict}
 use Rattle.rules.specs.declared.Verdict.the-variants.{Equal, Obsolete, Newer, Conflict}
+use Rattle.rules.specs.declared.Standing.{Standing}
 use Rattle.rules.specs.declared.Given.{Given}
 use Rattle.rules.specs.declared.Forked.{Forked}
 use Rattle.stamps.proofs.Laws.{first-then}
 use Rattle.slots.specs.Gates.{codeOf}
-use Rattle.slots.specs.Rules.{refusedAt, atTable, tableCode, answerCode, pairTests, meetTests, oneOf, twoOf, fullCode, joinRule}
+use Rattle.slots.specs.Rules.{refusedAt, atTable, standingHere, answerCode, pairTests, meetTests, oneOf, twoOf, fullCode, joinRule}
 
 -- ---- from a rule by value to the table
-
-pub table-code : (r : Refusal) → tableCode (codeOf r) ≡ codeOf (refusedAt r)
-unfolding tableCode
-table-code Malformed = refl
-table-code Unlawful = refl
-table-code NoSlot = refl
-table-code OneSlot = refl
-table-code Full = refl
-table-code Long = refl
-table-code Many = refl
-table-code Overlap = refl
-table-code Unseen = refl
-table-code Short = refl
-table-code Unread = refl
-table-code Unfit = refl
-table-code Ended = refl
-
-table-compared : (b : Answer) (v : Verdict) → tableCode (comparedNumber (told b v)) ≡ comparedNumber (told (atTable b) v)
-unfolding tableCode
-table-compared Done Equal = refl
-table-compared Done Obsolete = refl
-table-compared Done Newer = refl
-table-compared Done Conflict = refl
-table-compared (Refused r) v = table-code r
 
 -- what is asked in order is asked in the same order
 pub first-table : (ts : List (Bool × Refusal)) → atTable (first ts) ≡ first (map (λ (t : Bool × Refusal). (t .0, refusedAt (t .1))) ts)
@@ -105,12 +82,31 @@ full-form ts n s u x y = by (unlawful narrow s)
     by true = refl
     by false = refl
 
+-- two update names that were compared by value, as the table says it
+here : (b : Answer) (v : Verdict) (m n : Name) → standingHere (standsAs (told b v) m n) ≡ standsAs (told (atTable b) v) m n
+here Done Equal m n = refl
+here Done Obsolete m n = refl
+here Done Newer m n = refl
+here Done Conflict m n = refl
+here (Refused r) v m n = refl
+
 pub compare-form : (s u : Record)
-    → tableCode (comparedNumber (compared narrow s u)) ≡ comparedNumber (told (first (meetTests s u [])) (compare (held s) (held u)))
-unfolding compared
+    → standingHere (standing narrow s u) ≡ standsAs (told (first (meetTests s u [])) (compare (held s) (held u))) (held s .update) (held u .update)
+unfolding standing compared
 compare-form s u =
-    table-compared (first (meeting narrow s u [])) (compare (held s) (held u))
-    ∙ ap (λ (r : Answer). comparedNumber (told r (compare (held s) (held u)))) (first-table (meeting narrow s u []))
+    here (first (meeting narrow s u [])) (compare (held s) (held u)) (held s .update) (held u .update)
+    ∙ ap (λ (r : Answer). standsAs (told r (compare (held s) (held u))) (held s .update) (held u .update)) (first-table (meeting narrow s u []))
+
+-- a record beside itself
+pub itself-form : (s u : Record)
+    → cond (unlawful narrow s) (Standing.Refused Unfit) Standing.Equal ≡ standsAs (told (first ((unlawful narrow s, Unfit) ∷ [])) Equal) (held s .update)
+    (held u .update)
+unfolding first
+itself-form s u = by (unlawful narrow s)
+  where
+    by : (b : Bool) → cond b (Standing.Refused Unfit) Standing.Equal ≡ standsAs (told (cond b (Refused Unfit) Done) Equal) (held s .update) (held u .update)
+    by true = refl
+    by false = refl
 
 -- ---- what is asked before a join, and then of the records that meet
 

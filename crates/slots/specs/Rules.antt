@@ -19,16 +19,13 @@ use Rattle.slots.specs.Gates.{codeOf}
 use Rattle.slots.specs.declared.One.{One}
 use Rattle.slots.specs.declared.Two.{Two}
 
--- a record that a rule by value refuses as unlawful, 2, is 12 at the table: a refusal, an answer, a number
+-- a record that a rule by value refuses as unlawful, 2, is 12 at the table: a refusal, an answer
 abbrev pub refusedAt : Refusal → Refusal
 refusedAt r = cond (eqb (number r) (number Unlawful)) Unfit r
 
 abbrev pub atTable : Answer → Answer
 atTable Done = Done
 atTable (Refused r) = Refused (refusedAt r)
-
-unfoldable pub tableCode : ℕ → ℕ
-tableCode n = cond (eqb n (codeOf Unlawful)) (codeOf Unfit) n
 
 -- n where the call is accepted
 abbrev pub answerCode : Answer → ℕ → ℕ

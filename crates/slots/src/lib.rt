@@ -2,15 +2,15 @@
 // total: it takes records of any content, and one that refuses gives back what it got. Answers are numbers, as slotNumber of
 // the rules says; a comparison is the standing itself.
 ghost use mathlib.Core.Path.{_≡_};
-ghost use mathlib.Core.List.{[], _∷_};
+ghost use mathlib.Core.Bool.{cond};
+ghost use mathlib.Core.List.{[]};
 ghost use Rattle.rules.specs.Limits.{narrow};
 ghost use Rattle.rules.specs.Refusals.{first};
 ghost use Rattle.rules.specs.Stored.{absent, unlawful};
 ghost use Rattle.rules.specs.declared.Refusal.the-variants.{Unfit};
-ghost use Rattle.rules.specs.declared.Standing.the-variants.{Equal};
-ghost use Rattle.walks.specs.Walks.{standAfter};
+ghost use Rattle.rules.specs.declared.Standing.the-variants.{Equal, Refused};
 ghost use Rattle.slots.specs.Gates.{gateCode, freshSlot};
-ghost use Rattle.slots.specs.Rules.{tableCode, answerCode, fullCode, slotTests, pairTests, updateRule, forkRule, joinRule, compareRule, notCompared, refusedAt, standingHere};
+ghost use Rattle.slots.specs.Rules.{answerCode, fullCode, slotTests, pairTests, updateRule, forkRule, joinRule, compareRule, notCompared, refusedAt, standingHere};
 use answers::refusal_code;
 use names::is_zero_from;
 use rules::Answer;
@@ -23,8 +23,6 @@ use stamps::blank;
 pub const RECORDS: usize = 32;
 
 // Refusals as answers of the table: 1,000 and the number that the rules give each.
-const UNLAWFUL: u64 = 1002;
-
 const NO_SLOT: u64 = 1003;
 
 const ONE_SLOT: u64 = 1004;
@@ -97,7 +95,7 @@ pub fn update_rule(a: usize, s: Record) -> One
             first: edited,
         },
         Answer::Refused(r) => One {
-            code: table_code(refusal_code(r)),
+            code: refusal_code(refusal_at(r)),
             first: s,
         },
     }
@@ -133,7 +131,7 @@ pub fn fork_rule(a: usize, b: usize, s: Record, u: Record) -> Two
             second: one,
         },
         Answer::Refused(r) => Two {
-            code: table_code(refusal_code(r)),
+            code: refusal_code(refusal_at(r)),
             first: s,
             second: u,
         },
@@ -163,7 +161,7 @@ pub fn join_rule(a: usize, b: usize, s: Record, u: Record) -> Two
             second: none,
         },
         Answer::Refused(r) => Two {
-            code: table_code(refusal_code(r)),
+            code: refusal_code(refusal_at(r)),
             first: s,
             second: u,
         },
@@ -253,7 +251,7 @@ fn pair_code(a: usize, b: usize, s: Record, u: Record) -> u64
 
 // A lawful record beside itself.
 fn equal_to_itself(s: Record) -> Standing
-    ensures { λ r. ⌜ r ≡ standAfter (first ((unlawful narrow s, Unfit) ∷ [])) Equal ⌝ }
+    ensures { λ r. ⌜ r ≡ cond (unlawful narrow s) (Refused Unfit) Equal ⌝ }
 {
     if stamps::is_lawful(s) {
         return Standing::Equal;
@@ -261,7 +259,7 @@ fn equal_to_itself(s: Record) -> Standing
     Standing::Refused(Refusal::Unfit)
 }
 
-// A comparison at the table: what is refused as unlawful by value, 2, is 12 here.
+// A comparison by value, as the table says it.
 fn standing_at(s: Standing) -> Standing
     ensures { λ r. ⌜ r ≡ standingHere s ⌝ }
 {
@@ -271,7 +269,7 @@ fn standing_at(s: Standing) -> Standing
     }
 }
 
-// A refusal at the table.
+// A refusal at the table: what a rule by value refuses as unlawful, 2, is 12 here.
 fn refusal_at(r: Refusal) -> Refusal
     ensures { λ t. ⌜ t ≡ refusedAt r ⌝ }
 {
@@ -279,14 +277,4 @@ fn refusal_at(r: Refusal) -> Refusal
         Refusal::Unlawful => Refusal::Unfit,
         _ => r,
     }
-}
-
-// A number at the table: what a rule by value refuses as unlawful, 2, is 12 here.
-fn table_code(n: u64) -> u64
-    ensures { λ r. ⌜ r ≡ tableCode n ⌝ }
-{
-    if n == UNLAWFUL {
-        return UNFIT;
-    }
-    n
 }

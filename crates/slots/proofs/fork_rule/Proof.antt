@@ -6,8 +6,9 @@ use Rattle.rules.specs.Stored.{held}
 use Rattle.rules.specs.declared.Answer.{Answer}
 use Rattle.rules.specs.declared.Forked.{Forked}
 use Rattle.rules.specs.declared.Refusal.the-variants.{Long}
-use Rattle.slots.specs.Rules.{forkRule, fullCode, twoOf, atTable, tableCode}
-use Rattle.slots.proofs.Forms.{table-code, fork-form, full-form}
+use Rattle.slots.specs.Gates.{codeOf}
+use Rattle.slots.specs.Rules.{forkRule, fullCode, twoOf, atTable}
+use Rattle.slots.proofs.Forms.{fork-form, full-form}
 use Rattle.slots.proofs.fork_rule.Statement.{statement}
 use Rattle.slots.proofs.fork_rule.Tie as tie
 
@@ -50,7 +51,7 @@ returns-4 c =
     let x = k .fork .result in
     simp (sym (a .before .is-absent .ensures) ∙ a .if1 .left, ne-eqb _ _ (e .if2 .left))
     (ap (λ (n : ℕ). record { code = n; first = g .s; second = g .u })
-    (c .table-code .ensures ∙ ap tableCode (d .refusal-code .ensures) ∙ table-code (m .answer .given .0 .0))
+    (c .refusal-code .ensures ∙ ap codeOf (d .refusal-at .ensures))
     ∙ sym (ap (λ (r : Answer). twoOf (atTable r) (g .b) (g .s) (g .u) (x .zero) (x .one)) (m .answer .given .1))
     ∙ ap (λ (f : Forked). twoOf (atTable (f .answer)) (g .b) (g .s) (g .u) (f .zero) (f .one)) (k .fork .ensures)
     ∙ fork-form (g .b) (g .s) (g .u))

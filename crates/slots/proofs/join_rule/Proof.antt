@@ -5,8 +5,9 @@ use Rattle.rules.specs.Stored.{blank}
 use Rattle.rules.specs.declared.Answer.{Answer}
 use Rattle.rules.specs.declared.Given.{Given}
 use Rattle.rules.specs.declared.Record.{Record}
-use Rattle.slots.specs.Rules.{twoOf, atTable, tableCode}
-use Rattle.slots.proofs.Forms.{table-code, join-refused, join-form}
+use Rattle.slots.specs.Gates.{codeOf}
+use Rattle.slots.specs.Rules.{twoOf, atTable}
+use Rattle.slots.proofs.Forms.{join-refused, join-form}
 use Rattle.slots.proofs.join_rule.Statement.{statement}
 use Rattle.slots.proofs.join_rule.Tie as tie
 
@@ -35,7 +36,7 @@ returns-3 c =
     let g = k .before .before .args in
     let x = j .join .result in
     ap (λ (n : ℕ). record { code = n; first = g .s; second = g .u })
-    (c .table-code .ensures ∙ ap tableCode (d .refusal-code .ensures) ∙ table-code (m .answer .given .0 .0))
+    (c .refusal-code .ensures ∙ ap codeOf (d .refusal-at .ensures))
     ∙ sym (ap (λ (r : Answer). twoOf (atTable r) (g .a) (g .s) (g .u) (x .stamp) (blank narrow)) (m .answer .given .1))
     ∙ ap (λ (x : Given). twoOf (atTable (x .answer)) (g .a) (g .s) (g .u) (x .stamp) (blank narrow)) (j .join .ensures)
     ∙ join-form (g .a) (g .b) (g .s) (g .u) (k .before .pair-code .result) (k .before .pair-code .ensures) (k .if1 .left)

@@ -3,8 +3,9 @@ use Rattle.laws.proofs.Library.{sym, ap, _∙_, ℕ, needs}
 use Rattle.rules.specs.Refusals.{first}
 use Rattle.rules.specs.declared.Answer.{Answer}
 use Rattle.rules.specs.declared.Given.{Given}
-use Rattle.slots.specs.Rules.{updateRule, oneOf, atTable, tableCode}
-use Rattle.slots.proofs.Forms.{table-code, update-form}
+use Rattle.slots.specs.Gates.{codeOf}
+use Rattle.slots.specs.Rules.{updateRule, oneOf, atTable}
+use Rattle.slots.proofs.Forms.{update-form}
 use Rattle.slots.proofs.update_rule.Statement.{statement}
 use Rattle.slots.proofs.update_rule.Tie as tie
 
@@ -35,7 +36,7 @@ returns-3 c =
     let x = k .update .result in
     simp (sym (a .before .is-absent .ensures) ∙ a .if1 .left)
     (ap (λ (n : ℕ). record { code = n; first = g .s })
-    (c .table-code .ensures ∙ ap tableCode (d .refusal-code .ensures) ∙ table-code (m .answer .given .0 .0))
+    (c .refusal-code .ensures ∙ ap codeOf (d .refusal-at .ensures))
     ∙ sym (ap (λ (r : Answer). oneOf (atTable r) (g .a) (g .s) (x .stamp)) (m .answer .given .1))
     ∙ ap (λ (f : Given). oneOf (atTable (f .answer)) (g .a) (g .s) (f .stamp)) (k .update .ensures)
     ∙ update-form (g .a) (g .s))

@@ -51,20 +51,20 @@ loop-again c =
     ⊎-elim
     (λ w. (
       ap (λ (x : ℕ). unknownWalk (drop (a + 1) u) (drop j i) (drop x v)) (w .6)
-      ∙ sym
-      (unknown-known u i v a (l .loop .b) (l .loop .c) (omega arith) j (s .reach .ensures .0) (x .before .before .if1 .left)
-      (sym (x .begins .ensures) ∙ w .0 .taken) (w .1 .result) (w .1 .ensures .0)
-      (sym (below-one u v a (w .1 .result) (drop (l .loop .c) v) (omega arith) (w .1 .ensures .0)) ∙ sym (w .4 .ensures)
-      ∙ not-false (w .4 .result) (w .5 .left)))
-      ∙ l .loop .inv .0,
+          ∙ sym
+          (unknown-known u i v a (l .loop .b) (l .loop .c) (omega arith) j (s .reach .ensures .0) (x .before .before .if1 .left)
+          (sym (x .begins .ensures) ∙ w .0 .taken) (w .1 .result) (w .1 .ensures .0)
+          (sym (below-one u v a (w .1 .result) (drop (l .loop .c) v) (omega arith) (w .1 .ensures .0)) ∙ sym (w .4 .ensures)
+          ∙ not-false (w .4 .result) (w .5 .left)))
+          ∙ l .loop .inv .0,
       omega (arith, w .6, w .1 .ensures .1 (l .loop .inv .1)),
     ))
     (λ w. (
       ap (λ (x : ℕ). unknownWalk (drop (a + 1) u) (drop j i) (drop x v)) (w .1)
-      ∙ sym
-      (unknown-passed u i v a (l .loop .b) (l .loop .c) (omega arith) j (s .reach .ensures .0) (x .before .before .if1 .left)
-      (sym (x .begins .ensures) ∙ w .0 .left))
-      ∙ l .loop .inv .0,
+          ∙ sym
+          (unknown-passed u i v a (l .loop .b) (l .loop .c) (omega arith) j (s .reach .ensures .0) (x .before .before .if1 .left)
+          (sym (x .begins .ensures) ∙ w .0 .left))
+          ∙ l .loop .inv .0,
       omega (arith, w .1, l .loop .inv .1),
     ))
     (c .if2 .came)

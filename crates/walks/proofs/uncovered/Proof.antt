@@ -45,9 +45,12 @@ each-again c =
     let m = g .args .m .now in
     let s = getD m (e .each .i) 0 in
     let b = c .before .begins in
-    omega
-    (arith, uncovered-at s (drop (e .each .i + 1) m) (g .args .n .now) (l .loop .j) true (omega arith) (omega (arith, t .if1 .taken))
-    (sym (b .ensures) ∙ not-false (b .result) (c .if2 .left)), l .loop .inv)
+    omega (
+      arith,
+      uncovered-at s (drop (e .each .i + 1) m) (g .args .n .now) (l .loop .j) true (omega arith) (omega (arith, t .if1 .taken))
+          (sym (b .ensures) ∙ not-false (b .result) (c .if2 .left)),
+      l .loop .inv,
+    )
 
 returns : tie.Need-returns Inv-loop μ-loop Inv-each μ-each
 returns c =
@@ -72,9 +75,12 @@ returns-3 c =
     let m = g .args .m .now in
     let s = getD m (e .each .i) 0 in
     let b = c .before .begins in
-    omega
-    (arith, uncovered-at s (drop (e .each .i + 1) m) (g .args .n .now) (l .loop .j) false (omega arith) (omega (arith, t .if1 .taken))
-    (sym (b .ensures) ∙ not-true (b .result) (c .if2 .taken)), l .loop .inv)
+    omega (
+      arith,
+      uncovered-at s (drop (e .each .i + 1) m) (g .args .n .now) (l .loop .j) false (omega arith) (omega (arith, t .if1 .taken))
+          (sym (b .ensures) ∙ not-true (b .result) (c .if2 .taken)),
+      l .loop .inv,
+    )
 
 pub uncovered-spec : {M : Type 1} → statement M
 uncovered-spec = tie.close (tie.spec Inv-loop μ-loop Inv-each μ-each (λ c. zero-add _) (λ c. search needs) (λ c. search needs) loop-holds
