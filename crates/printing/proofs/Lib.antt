@@ -1,5 +1,6 @@
 -- The laws that the functions' proofs cite, and those that tie answers to the rules.
 pub mod Stores
+pub mod Digits
 pub mod Texts
 pub mod Turns
 pub mod Runs
