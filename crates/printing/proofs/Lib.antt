@@ -2,6 +2,7 @@
 pub mod Stores
 pub mod Digits
 pub mod Texts
+pub mod Fits
 pub mod Turns
 pub mod Runs
 pub mod Unique
