@@ -1,18 +1,14 @@
 -- How many answers have room, and what is left of them: who prints what is left again, in a buffer that the longest fits, prints at least
 -- one each time, and in the end all. Assumes nothing.
-use Rattle.laws.proofs.Library.{_≡_, refl, ap, List, [], _∷_, _++_, append-assoc, ℕ, zero, suc, _+_, _*_, _-_, _/_, _≤_, _<_, arith, le-leb, lt-leb, leb-true, leb, length}
-use Rattle.laws.proofs.Library.{take, take-append-drop, drop, length-drop, length-append, drop-drop, sub-zero}
+use Rattle.laws.proofs.Library.{_≡_, refl, ap, List, [], _∷_, _++_, ℕ, zero, suc, _+_, _*_, _-_, _/_, _≤_, _<_, sub-zero, arith, le-leb, lt-leb, leb-true, leb}
+use Rattle.laws.proofs.Library.{length, take, take-append-drop, drop, length-drop, length-append, drop-drop}
 use Rattle.rules.specs.Traces.{Text}
 use Rattle.lines.specs.declared.Command.{Command}
 use Rattle.lines.specs.Commands.{commandsIn, heldIn}
 use Rattle.lines.proofs.Splits.{either}
 use Rattle.printing.specs.Answers.{longest, answerText, answersText, fitting, fits, textIn}
 use Rattle.printing.proofs.Texts.{answer-room}
-
-pub answers-append : (cs ds : List Command) → answersText (cs ++ ds) ≡ answersText cs ++ answersText ds
-unfolding answersText
-answers-append [] ds = refl
-answers-append (c ∷ cs) ds = rw (answers-append cs ds, append-assoc)
+use Rattle.printing.proofs.Runs.{answers-append}
 
 -- ---- by the room there is
 

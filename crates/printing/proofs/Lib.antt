@@ -2,7 +2,7 @@
 pub mod Stores
 pub mod Digits
 pub mod Texts
+pub mod Runs
 pub mod Fits
 pub mod Turns
-pub mod Runs
 pub mod Unique

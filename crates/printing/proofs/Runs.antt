@@ -1,7 +1,7 @@
 -- What is printed for the commands of an input's lines is what the rules say the tool prints, however the input is cut into pieces.
 -- A table's slots are below 100 so that two digits show them, and no line changes a table's size. Assumes nothing.
-use Rattle.laws.proofs.Library.{_≡_, refl, sym, ap₂, _∙_, Bool, true, false, _||_, List, [], _∷_, _++_, inl, inr, ℕ, zero, suc, _≤_, _<_, le-trans, arith, leb-false}
-use Rattle.laws.proofs.Library.{eqb-false, leb, length, getD, set, replicate, length-set, length-replicate}
+use Rattle.laws.proofs.Library.{_≡_, refl, sym, ap₂, _∙_, Bool, true, false, _||_, List, [], _∷_, _++_, append-assoc, inl, inr, ℕ, zero, suc, _≤_, _<_, le-trans}
+use Rattle.laws.proofs.Library.{arith, leb-false, eqb-false, leb, length, getD, set, replicate, length-set, length-replicate}
 use Rattle.rules.specs.Limits.{Limits, records}
 use Rattle.rules.specs.Strings.{wordOf, strOf}
 use Rattle.rules.specs.Names.{Name, uncovered, lacked}
@@ -10,7 +10,8 @@ use Rattle.rules.specs.Stored.{stored, unlawful, blank, absent}
 use Rattle.rules.specs.Refusals.{first}
 use Rattle.rules.specs.Values.{told}
 use Rattle.rules.specs.Tables.{Table, at, stampAt, stepped, badSize, noSlot, lowest, full, freshTable, updateAt, forkAt, joinAt, compareAt, standingAt, spareAt}
-use Rattle.rules.specs.Traces.{Text, update, fork, join, compare, spare, unreadable, lackedAt, lineText, lineTable, tracedFrom, traced, readLines, linesOf, Line}
+use Rattle.rules.specs.Traces.{Text, Line, update, fork, join, compare, spare, unreadable, readLines, linesOf}
+use Rattle.rules.specs.Traces.{lackedAt, lineText, lineTable, tracedFrom, traced}
 use Rattle.rules.specs.declared.Refusal.{Refusal}
 use Rattle.rules.specs.declared.Refusal.the-variants.{NoSlot, Unfit}
 use Rattle.rules.specs.declared.Answer.{Answer}
@@ -23,6 +24,7 @@ use Rattle.laws.proofs.Tests.{no}
 use Rattle.laws.proofs.Words.{str-word}
 use Rattle.laws.proofs.Lawful.{Short, lawful-parts}
 use Rattle.laws.proofs.Stored.{lawful-stored, stored-lawful}
+use Rattle.lines.specs.declared.Command.{Command}
 use Rattle.lines.specs.Commands.{commandOf, commandsOf, begun, allGathered, whole}
 use Rattle.lines.specs.Runs.{answerTo, answered}
 use Rattle.lines.proofs.Splits.{either}
@@ -76,7 +78,7 @@ module _ (L : Limits) (t : Table) where
   own-slot : (a n : ℕ) (more : List (Bool × Refusal)) (new : Table)
       → stepped (first ((badSize t, Unfit) ∷ (noSlot L t a, NoSlot) ∷ more)) a t new .answer ≡ At n → n < length t
   own-slot a n more new e =
-      let w = step-slot _ a n t new e in
+      let w = step-slot (first ((badSize t, Unfit) ∷ (noSlot L t a, NoSlot) ∷ more)) a n t new e in
       omega (arith, slot-below L t a (first-done _ _ _ (first-done _ _ _ (w .0) .1) .0), w .1)
 
   update-slot : (a n : ℕ) → updateAt L t a .answer ≡ At n → n < length t
@@ -156,3 +158,10 @@ module _ (L : Limits) (room : L .digits ≤ 58) where
       rw (all-lines ps)
       (prints (readLines (linesOf (whole ps))) (freshTable L records)
       (omega (arith, length-set (replicate records (blank L)) 0 (stored L start), length-replicate records (blank L))))
+
+-- ---- piece after piece
+
+pub answers-append : (cs ds : List Command) → answersText (cs ++ ds) ≡ answersText cs ++ answersText ds
+unfolding answersText
+answers-append [] ds = refl
+answers-append (c ∷ cs) ds = rw (answers-append cs ds, append-assoc)

@@ -1,10 +1,10 @@
 -- What the loop of `print` comes to from a turn on: a turn leaves it as it was, where there is no room or no answer it is what stands there,
 -- and at the start it is what the contract says. Assumes nothing.
-use Rattle.laws.proofs.Library.{_≡_, refl, List, [], _∷_, _++_, ℕ, suc, _+_, _*_, _-_, _/_, _≤_, _<_, add-zero, zero-add, sub-zero, add-assoc, add-one, arith}
-use Rattle.laws.proofs.Library.{le-leb, lt-leb, leb, length, take, getD, drop, length-append, sets, drop-drop, getD-drop}
+use Rattle.laws.proofs.Library.{_≡_, List, [], _∷_, _++_, ℕ, suc, _+_, _*_, _-_, _/_, _≤_, _<_, add-zero, zero-add, sub-zero, arith}
+use Rattle.laws.proofs.Library.{length, getD, drop, length-append, sets, drop-drop, getD-drop}
 use Rattle.rules.specs.Traces.{Text}
 use Rattle.lines.specs.declared.Command.{Command}
-use Rattle.lines.specs.Commands.{commandsIn, heldIn}
+use Rattle.lines.specs.Commands.{commandsIn}
 use Rattle.lines.proofs.Turns.{sets-front}
 use Rattle.printing.specs.declared.Printed.{Printed}
 use Rattle.printing.specs.Answers.{longest, answerText, answersText, fitting, textIn, printed, printedIn}

@@ -64,9 +64,8 @@ returns-2 : tie.Need-returns-2 Inv-loop μ-loop
 returns-2 c =
     let l = c .before in
     let g = l .before .before .before .args in
-    both (g .commands .now) (g .out .now)
-    (sym (rw (commands-end (g .commands .now) (length (g .commands .now) / 3) (l .loop .k) (omega arith)) (writes-none (l .loop .out) (l .loop .at) (l .loop .k)))
-    ∙ l .loop .inv .4)
+    let end = commands-end (g .commands .now) (length (g .commands .now) / 3) (l .loop .k) (omega arith) in
+    both (g .commands .now) (g .out .now) (sym (writes-none (l .loop .out) (l .loop .at) (l .loop .k)) ∙ (rw end at (l .loop .inv .4)))
 
 pub print-spec : {M : Type 1} → statement M
 print-spec = tie.close (tie.spec Inv-loop μ-loop (λ c. (refl, search needs, search needs, refl, refl)) (λ c. search needs) (λ c. search needs)

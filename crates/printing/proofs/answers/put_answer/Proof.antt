@@ -49,8 +49,9 @@ returns-5 : tie.Need-returns-5
 returns-5 c =
     let p = c .before .before in
     let m = p .before .before in
+    let g = m .before .before .args in
     let r = m .match .rest in
-    rw (no-letter (m .before .before .args .op) (m .before .before .args .a) (m .before .before .args .b) (r .0 .0 .0 .1) (r .0 .0 .1) (r .0 .1) (r .1)) (p .put-refused .ensures)
+    rw (no-letter (g .op) (g .a) (g .b) (r .0 .0 .0 .1) (r .0 .0 .1) (r .0 .1) (r .1)) (p .put-refused .ensures)
 
 pub put-answer-spec : {M : Type 1} → statement M
 put-answer-spec = tie.close (tie.spec (λ c κs. search needs) (λ c κs. search needs) (λ c κs. search needs) (λ c κs. search needs) (λ c κs. search needs)

@@ -1,7 +1,6 @@
 -- `printing::answers::put_conflict` meets its contract: five texts, each behind the one before. Assumes nothing.
-use Rattle.laws.proofs.Library.{needs, arith, [], _∷_, _++_}
-use Rattle.rules.specs.Strings.{strOf}
-use Rattle.rules.specs.Traces.{digitsText, conflictText}
+use Rattle.laws.proofs.Library.{needs, arith}
+use Rattle.rules.specs.Traces.{conflictText}
 use Rattle.printing.proofs.Stores.{put-then}
 use Rattle.printing.proofs.Digits.{digits-count}
 use Rattle.printing.proofs.answers.put_conflict.Statement.{statement}
@@ -12,7 +11,7 @@ space-room c κs =
     let first = c .before .before .before .before in
     let word = first .before .before .before .before in
     let g = word .before .before .before .before .args in
-    omega (arith, digits-count (g .a), word .put .ensures .place, first .put-digits .ensures .place)
+    omega (arith, digits-count (g .a))
 
 second-room : tie.Need-put-digits-requires-2
 second-room c κs =
@@ -20,7 +19,7 @@ second-room c κs =
     let first = space .before .before .before .before .before in
     let word = first .before .before .before .before in
     let g = word .before .before .before .before .args in
-    omega (arith, digits-count (g .a), word .put .ensures .place, first .put-digits .ensures .place, space .put2 .ensures .place)
+    omega (arith, digits-count (g .a))
 
 end-room : tie.Need-put-requires-3
 end-room c κs =
@@ -29,8 +28,7 @@ end-room c κs =
     let first = space .before .before .before .before .before in
     let word = first .before .before .before .before in
     let g = word .before .before .before .before .args in
-    omega (arith, digits-count (g .a), digits-count (g .b), word .put .ensures .place, first .put-digits .ensures .place, space .put2 .ensures .place,
-    second .put-digits2 .ensures .place)
+    omega (arith, digits-count (g .a), digits-count (g .b))
 
 returns : tie.Need-returns
 unfolding conflictText
