@@ -35,7 +35,7 @@ pub fitted-none : (room : ℕ) (cs : List Command) → room < longest → fitted
 unfolding fitted answersText
 fitted-none room cs h = rw (fitting-none room cs h)
 
-pub fitted-room : (cs : List Command) (room : ℕ) → length (fitted room cs) ≤ room
+fitted-room : (cs : List Command) (room : ℕ) → length (fitted room cs) ≤ room
 unfolding fitted fitting answersText
 fitted-room [] room = omega arith
 fitted-room (c ∷ cs) room =

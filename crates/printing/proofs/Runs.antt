@@ -1,5 +1,6 @@
 -- What is printed for the commands of an input's lines is what the rules say the tool prints, however the input is cut into pieces.
--- A table's slots are below 100 so that two digits show them, and no line changes a table's size. Assumes nothing.
+-- A table's slots are below 100 so that two digits show them, and no line changes a table's size; and the strings of copies in conflict are
+-- those of lawful records, so their words tell them. Assumes nothing.
 use Rattle.laws.proofs.Library.{_≡_, refl, sym, ap₂, _∙_, Bool, true, false, _||_, List, [], _∷_, _++_, append-assoc, inl, inr, ℕ, zero, suc, _≤_, _<_, le-trans}
 use Rattle.laws.proofs.Library.{arith, leb-false, eqb-false, leb, length, getD, set, replicate, length-set, length-replicate}
 use Rattle.rules.specs.Limits.{Limits, records}
@@ -104,24 +105,25 @@ getD-short most [] k h = omega arith
 getD-short most (s ∷ n) zero h = h s (inl refl)
 getD-short most (s ∷ n) (suc k) h = getD-short most n k (λ t i. h t (inr i))
 
+-- a verdict is told where a comparison is accepted
+told-done : (w : Answer) (v u : Verdict) → told w v ≡ Is u → w ≡ Done
+told-done Done v u e = refl
+told-done (Refused r) v u e = absurd (let z : _≡_ {A = ℕ} 0 1 = cc in omega arith)
+
 module _ (L : Limits) (t : Table) where
   -- the update name of a lawful record has short strings
   short-update : (a : ℕ) → unlawful L (at t a) ≡ false → Short (L .digits) (stampAt t a .update)
   short-update a e = lawful-parts L (stampAt t a) (stored-lawful L (at t a) (lawful-stored L (at t a) e)) .updateNamed .short
 
-  told-is : (w : Answer) (v u : Verdict) → told w v ≡ Is u → w ≡ Done
-  told-is Done v u e = refl
-  told-is (Refused r) v u e = absurd (let z : _≡_ {A = ℕ} 0 1 = cc in omega arith)
-
-  -- two slots that were compared are lawful
+  -- the records of two slots that were compared are lawful
   compared-lawful : (a b : ℕ) (v : Verdict) → compareAt L t a b ≡ Is v → (unlawful L (at t a) ≡ false) × (unlawful L (at t b) ≡ false)
   unfolding compareAt
   compared-lawful a b v e =
-      let d = first-done _ _ _ (first-done _ _ _ (first-done _ _ _ (told-is _ _ v e) .1) .1) .1 in
+      let d = first-done _ _ _ (first-done _ _ _ (first-done _ _ _ (told-done _ _ v e) .1) .1) .1 in
       let f = first-done _ _ _ d in
       (f .0, first-done _ _ _ (f .1) .0)
 
-  -- the word of what another lacks tells it
+  -- the word of what it has and another lacks tells that string
   lacked-word : L .digits ≤ 58 → (a b : ℕ) → unlawful L (at t a) ≡ false → strOf (wordOf (lackedAt t a b)) ≡ lackedAt t a b
   unfolding lacked
   lacked-word room a b e =

@@ -11,7 +11,7 @@ space-room c κs =
     let first = c .before .before .before .before in
     let word = first .before .before .before .before in
     let g = word .before .before .before .before .args in
-    omega (arith, digits-count (g .a))
+    omega (arith, digits-count (g .a), digits-count (g .b))
 
 second-room : tie.Need-put-digits-requires-2
 second-room c κs =
@@ -19,7 +19,7 @@ second-room c κs =
     let first = space .before .before .before .before .before in
     let word = first .before .before .before .before in
     let g = word .before .before .before .before .args in
-    omega (arith, digits-count (g .a))
+    omega (arith, digits-count (g .a), digits-count (g .b))
 
 end-room : tie.Need-put-requires-3
 end-room c κs =
