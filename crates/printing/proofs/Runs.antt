@@ -1,8 +1,8 @@
 -- What is printed for the commands of an input's lines is what the rules say the tool prints, however the input is cut into pieces.
 -- A table's slots are below 100 so that two digits show them, and no line changes a table's size; and the strings of copies in conflict are
 -- those of lawful records, so their words tell them. Assumes nothing.
-use Rattle.laws.proofs.Library.{_≡_, refl, sym, ap₂, _∙_, Bool, true, false, _||_, List, [], _∷_, _++_, append-assoc, inl, inr, ℕ, zero, suc, _≤_, _<_, le-trans}
-use Rattle.laws.proofs.Library.{arith, leb-false, eqb-false, leb, length, getD, set, replicate, length-set, length-replicate}
+use Rattle.laws.proofs.Library.{_≡_, refl, sym, ap₂, _∙_, Bool, true, false, _||_, List, [], _∷_, _++_, append-assoc, inl, inr, ℕ, zero, suc, _≤_, _<_}
+use Rattle.laws.proofs.Library.{le-trans, arith, leb-false, eqb-false, leb, length, getD, set, replicate, length-set, length-replicate}
 use Rattle.rules.specs.Limits.{Limits, records}
 use Rattle.rules.specs.Strings.{wordOf, strOf}
 use Rattle.rules.specs.Names.{Name, uncovered, lacked}
