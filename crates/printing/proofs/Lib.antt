@@ -1,6 +1,8 @@
 -- The laws that the functions' proofs cite, and those that tie answers to the rules.
 pub mod Stores
+pub mod Digits
 pub mod Texts
-pub mod Turns
 pub mod Runs
+pub mod Fits
+pub mod Turns
 pub mod Unique

@@ -1,27 +1,38 @@
 -- What is printed for the commands of an input's lines is what the rules say the tool prints, however the input is cut into pieces.
--- A table's slots are below 100 so that two digits show them, and no line changes a table's size. Assumes nothing.
-use Rattle.laws.proofs.Library.{_≡_, refl, sym, ap₂, _∙_, Bool, true, false, _||_, List, [], _∷_, _++_, append-assoc, ℕ, suc, _≤_, _<_, arith, leb-false}
-use Rattle.laws.proofs.Library.{eqb-false, leb, length, set, replicate, length-set, length-replicate}
+-- A table's slots are below 100 so that two digits show them, and no line changes a table's size; and the strings of copies in conflict are
+-- those of lawful records, so their words tell them. Assumes nothing.
+use Rattle.laws.proofs.Library.{_≡_, refl, sym, ap₂, _∙_, Bool, true, false, _||_, List, [], _∷_, _++_, append-assoc, inl, inr, ℕ, zero, suc, _≤_, _<_}
+use Rattle.laws.proofs.Library.{le-trans, arith, leb-false, eqb-false, leb, length, getD, set, replicate, length-set, length-replicate}
 use Rattle.rules.specs.Limits.{Limits, records}
+use Rattle.rules.specs.Strings.{wordOf, strOf}
+use Rattle.rules.specs.Names.{Name, uncovered, lacked}
 use Rattle.rules.specs.Stamps.{start}
-use Rattle.rules.specs.Stored.{stored, blank, absent}
+use Rattle.rules.specs.Stored.{stored, unlawful, blank, absent}
 use Rattle.rules.specs.Refusals.{first}
-use Rattle.rules.specs.Tables.{Table, stepped, badSize, noSlot, lowest, full, freshTable, updateAt, forkAt, joinAt, compareAt, spareAt}
-use Rattle.rules.specs.Traces.{Text, update, fork, join, compare, spare, unreadable, lineText, lineTable, tracedFrom, traced, readLines, linesOf, Line}
+use Rattle.rules.specs.Values.{told}
+use Rattle.rules.specs.Tables.{Table, at, stampAt, stepped, badSize, noSlot, lowest, full, freshTable, updateAt, forkAt, joinAt, compareAt, standingAt, spareAt}
+use Rattle.rules.specs.Traces.{Text, Line, update, fork, join, compare, spare, unreadable, readLines, linesOf}
+use Rattle.rules.specs.Traces.{lackedAt, lineText, lineTable, tracedFrom, traced}
 use Rattle.rules.specs.declared.Refusal.{Refusal}
 use Rattle.rules.specs.declared.Refusal.the-variants.{NoSlot, Unfit}
 use Rattle.rules.specs.declared.Answer.{Answer}
 use Rattle.rules.specs.declared.Answer.the-variants.{Done, Refused}
 use Rattle.rules.specs.declared.Slot.the-variants.{At}
+use Rattle.rules.specs.declared.Verdict.{Verdict}
+use Rattle.rules.specs.declared.Verdict.the-variants.{Conflict}
+use Rattle.rules.specs.declared.Compared.the-variants.{Is}
 use Rattle.laws.proofs.Tests.{no}
+use Rattle.laws.proofs.Words.{str-word}
+use Rattle.laws.proofs.Lawful.{Short, lawful-parts}
+use Rattle.laws.proofs.Stored.{lawful-stored, stored-lawful}
 use Rattle.lines.specs.declared.Command.{Command}
 use Rattle.lines.specs.Commands.{commandOf, commandsOf, begun, allGathered, whole}
-use Rattle.lines.specs.Runs.{answerNumber, answered}
+use Rattle.lines.specs.Runs.{answerTo, answered}
 use Rattle.lines.proofs.Splits.{either}
 use Rattle.lines.proofs.Pieces.{all-lines}
 use Rattle.lines.proofs.Runs.{meant-command}
 use Rattle.printing.specs.Answers.{answerText, answersText}
-use Rattle.printing.proofs.Texts.{unread-text, slot-text, compared-text, spared-text}
+use Rattle.printing.proofs.Texts.{unread-text, slot-text, stood-text, spared-text}
 
 -- ---- tables
 
@@ -68,7 +79,7 @@ module _ (L : Limits) (t : Table) where
   own-slot : (a n : ℕ) (more : List (Bool × Refusal)) (new : Table)
       → stepped (first ((badSize t, Unfit) ∷ (noSlot L t a, NoSlot) ∷ more)) a t new .answer ≡ At n → n < length t
   own-slot a n more new e =
-      let w = step-slot _ a n t new e in
+      let w = step-slot (first ((badSize t, Unfit) ∷ (noSlot L t a, NoSlot) ∷ more)) a n t new e in
       omega (arith, slot-below L t a (first-done _ _ _ (first-done _ _ _ (w .0) .1) .0), w .1)
 
   update-slot : (a n : ℕ) → updateAt L t a .answer ≡ At n → n < length t
@@ -86,33 +97,69 @@ module _ (L : Limits) (t : Table) where
       let f = first-done _ _ _ (first-done _ _ _ (first-done _ _ _ (first-done _ _ _ (w .0) .1) .1) .1) .0 in
       omega (arith, lowest-le L t, eqb-false (lowest L t) (length t) f, w .1)
 
+-- ---- a conflict's strings
+
+-- a string of a name of short strings is short, and so is the one behind the last
+getD-short : (most : ℕ) (n : Name) (k : ℕ) → Short most n → length (getD n k []) ≤ most
+getD-short most [] k h = omega arith
+getD-short most (s ∷ n) zero h = h s (inl refl)
+getD-short most (s ∷ n) (suc k) h = getD-short most n k (λ t i. h t (inr i))
+
+-- a verdict is told where a comparison is accepted
+told-done : (w : Answer) (v u : Verdict) → told w v ≡ Is u → w ≡ Done
+told-done Done v u e = refl
+told-done (Refused r) v u e = absurd (let z : _≡_ {A = ℕ} 0 1 = cc in omega arith)
+
+module _ (L : Limits) (t : Table) where
+  -- the update name of a lawful record has short strings
+  short-update : (a : ℕ) → unlawful L (at t a) ≡ false → Short (L .digits) (stampAt t a .update)
+  short-update a e = lawful-parts L (stampAt t a) (stored-lawful L (at t a) (lawful-stored L (at t a) e)) .updateNamed .short
+
+  -- the records of two slots that were compared are lawful
+  compared-lawful : (a b : ℕ) (v : Verdict) → compareAt L t a b ≡ Is v → (unlawful L (at t a) ≡ false) × (unlawful L (at t b) ≡ false)
+  unfolding compareAt
+  compared-lawful a b v e =
+      let d = first-done _ _ _ (first-done _ _ _ (first-done _ _ _ (told-done _ _ v e) .1) .1) .1 in
+      let f = first-done _ _ _ d in
+      (f .0, first-done _ _ _ (f .1) .0)
+
+  -- the word of what it has and another lacks tells that string
+  lacked-word : L .digits ≤ 58 → (a b : ℕ) → unlawful L (at t a) ≡ false → strOf (wordOf (lackedAt t a b)) ≡ lackedAt t a b
+  unfolding lacked
+  lacked-word room a b e =
+      let u = stampAt t a .update in
+      str-word (lackedAt t a b) (le-trans (getD-short (L .digits) u (uncovered u (stampAt t b .update)) (short-update a e)) room)
+
 -- ---- one line
 
-pub print-line : (L : Limits) (t : Table) (m : Line) → length t ≤ records → answerText (commandOf m .op) (answerNumber L t m) ≡ lineText L t m
-unfolding answerText commandOf answerNumber lineText
-print-line L t (update a) h = slot-text (updateAt L t a .answer) (λ n e. omega (arith, update-slot L t a n e))
-print-line L t (fork a) h = slot-text (forkAt L t a .answer) (λ n e. omega (arith, fork-slot L t a n e))
-print-line L t (join a b) h = slot-text (joinAt L t a b .answer) (λ n e. omega (arith, join-slot L t a b n e))
-print-line L t (compare a b) h = compared-text (compareAt L t a b)
-print-line L t (spare a) h = spared-text (spareAt L t a)
-print-line L t unreadable h = unread-text
+pub print-line : (L : Limits) (t : Table) (m : Line) → L .digits ≤ 58 → length t ≤ records → answerText (answerTo L t (commandOf m) m) ≡ lineText L t m
+unfolding answerText commandOf answerTo standingAt lineText
+print-line L t (update a) room h = slot-text (updateAt L t a .answer) (λ n e. omega (arith, update-slot L t a n e))
+print-line L t (fork a) room h = slot-text (forkAt L t a .answer) (λ n e. omega (arith, fork-slot L t a n e))
+print-line L t (join a b) room h = slot-text (joinAt L t a b .answer) (λ n e. omega (arith, join-slot L t a b n e))
+print-line L t (compare a b) room h =
+    stood-text (compareAt L t a b) a b _ _ (lackedAt t a b) (lackedAt t b a)
+    (λ e. let f = compared-lawful L t a b Conflict e in (lacked-word L t room a b (f .0), lacked-word L t room b a (f .1)))
+print-line L t (spare a) room h = spared-text (spareAt L t a)
+print-line L t unreadable room h = unread-text
 
 -- ---- all lines
 
-pub prints : (L : Limits) (ms : List Line) (t : Table) → length t ≤ records → answersText (answered L t (commandsOf ms)) ≡ tracedFrom L t ms
-unfolding answersText answered commandsOf tracedFrom
-prints L [] t h = refl
-prints L (m ∷ ms) t h =
-    rw meant-command
-    (ap₂ (λ (s u : Text). s ++ u) (print-line L t m h) (prints L ms (lineTable L t m) (omega (arith, line-size L t m))))
+module _ (L : Limits) (room : L .digits ≤ 58) where
+  pub prints : (ms : List Line) (t : Table) → length t ≤ records → answersText (answered L t (commandsOf ms)) ≡ tracedFrom L t ms
+  unfolding answersText answered commandsOf tracedFrom
+  prints [] t h = refl
+  prints (m ∷ ms) t h =
+      rw meant-command
+      (ap₂ (λ (s u : Text). s ++ u) (print-line L t m room h) (prints ms (lineTable L t m) (omega (arith, line-size L t m))))
 
--- what is printed for an input, in whatever pieces it came
-pub prints-traced : (L : Limits) (ps : List Text) → answersText (answered L (freshTable L records) (allGathered begun ps)) ≡ traced L (whole ps)
-unfolding traced freshTable
-prints-traced L ps =
-    rw (all-lines ps)
-    (prints L (readLines (linesOf (whole ps))) (freshTable L records)
-    (omega (arith, length-set (replicate records (blank L)) 0 (stored L start), length-replicate records (blank L))))
+  -- what is printed for an input, in whatever pieces it came
+  pub prints-traced : (ps : List Text) → answersText (answered L (freshTable L records) (allGathered begun ps)) ≡ traced L (whole ps)
+  unfolding traced freshTable
+  prints-traced ps =
+      rw (all-lines ps)
+      (prints (readLines (linesOf (whole ps))) (freshTable L records)
+      (omega (arith, length-set (replicate records (blank L)) 0 (stored L start), length-replicate records (blank L))))
 
 -- ---- piece after piece
 

@@ -18,17 +18,13 @@ unfolding comparedAnswer verdictText
 returns-3 c = let p = c .before .before in rw (p .before .before .before .match .keys3) (p .put3 .ensures)
 
 returns-4 : tie.Need-returns-4
-unfolding comparedAnswer verdictText
-returns-4 c = let p = c .before .before in rw (p .before .before .before .match .keys4) (p .put4 .ensures)
-
-returns-5 : tie.Need-returns-5
 unfolding comparedAnswer
-returns-5 c =
+returns-4 c =
     let p = c .before .before in
     let r = p .before .before .match .rest in
-    rw (ne-eqb _ 0 (r .0 .0 .0 .1), ne-eqb _ 1 (r .0 .0 .1), ne-eqb _ 2 (r .0 .1), ne-eqb _ 3 (r .1)) (p .put-refused .ensures)
+    rw (ne-eqb _ 0 (r .0 .0 .1), ne-eqb _ 1 (r .0 .1), ne-eqb _ 2 (r .1)) (p .put-refused .ensures)
 
 pub put-compared-spec : {M : Type 1} → statement M
 put-compared-spec = tie.close (tie.spec (λ c. search needs) (λ c κs. search needs) (λ c. search needs) (λ c κs. search needs) (λ c. search needs)
-    (λ c κs. search needs) (λ c. search needs) (λ c κs. search needs) (λ c κs. search needs) (λ c. search needs) returns (λ c. search needs) returns-2
-    (λ c. search needs) returns-3 (λ c. search needs) returns-4 (λ c. search needs) returns-5)
+    (λ c κs. search needs) (λ c κs. search needs) (λ c. search needs) returns (λ c. search needs) returns-2 (λ c. search needs) returns-3
+    (λ c. search needs) returns-4)
