@@ -10,6 +10,7 @@ use Rattle.rules.specs.declared.Compared.the-variants.{Is, Refused as NotCompar
 use Rattle.rules.specs.declared.Refusal.{Refusal}
 use Rattle.rules.specs.declared.Refusal.the-variants.{Malformed, Unlawful, NoSlot, OneSlot, Full, Long, Many, Overlap, Unseen, Short, Unread, Unfit, Ended}
 use Rattle.rules.specs.declared.Verdict.the-variants.{Equal, Obsolete, Newer, Conflict}
+use Rattle.rules.specs.Values.{comparedOf}
 use Rattle.walks.specs.Walks.{front, compareWalk}
 use Rattle.slots.specs.Gates.{codeOf}
 use Rattle.slots.specs.Rules.{answerCode, slotTests}
@@ -42,7 +43,7 @@ unfolding meetCode
 meet-few m r = by (isStored narrow r)
   where
     c : Compared
-    c = compareWalk (front (m .update)) (front (m .id)) (front (r .update)) (front (r .id))
+    c = comparedOf (compareWalk (front (m .update)) (front (m .id)) (front (r .update)) (front (r .id)))
 
     by : (b : Bool) → cond b (spareCode c) (codeOf Unfit) ≤ 2000
     by true = spare-few c

@@ -2,13 +2,14 @@
 use Rattle.laws.proofs.Library.{_≡_, refl, sym, ap, _∙_, Bool, true, false, cond, _||_, [], _∷_, ℕ, zero, suc, _+_, _≤_, _<_, add-one, arith, lt-ltb}
 use Rattle.laws.proofs.Library.{le-ltb, ltb-true, ltb-false, eqb-true, eqb-false, eq-eqb, ne-eqb, eqb, ltb, length, getD, drop, drop-of-length-le}
 use Rattle.laws.proofs.Library.{drop-cons}
-use Rattle.laws.proofs.Tests.{clash}
+use Rattle.laws.proofs.Tests.{clash, eqb-suc}
+use Rattle.laws.proofs.Standing.{compared-standing}
 use Rattle.rules.specs.Limits.{narrow, records}
 use Rattle.rules.specs.Refusals.{first, overlap, unseen}
 use Rattle.rules.specs.Stamps.{compare}
 use Rattle.rules.specs.Stored.{absent, unlawful, isStored, held}
 use Rattle.rules.specs.Tables.{Table, outside, lowest, full, spareFrom, orNext, sparedNumber}
-use Rattle.rules.specs.Values.{told, compared}
+use Rattle.rules.specs.Values.{told, compared, comparedOf}
 use Rattle.rules.specs.declared.Record.{Record}
 use Rattle.rules.specs.declared.Answer.{Answer}
 use Rattle.rules.specs.declared.Answer.the-variants.{Done, Refused}
@@ -237,10 +238,11 @@ spare-told (Refused r) v = refl
 
 -- of lawful records the walks tell what the rules do
 meet-lawful : (m r : Record) → isStored narrow m ≡ true → isStored narrow r ≡ true
-    → spareCode (compareWalk (front (m .update)) (front (m .id)) (front (r .update)) (front (r .id))) ≡ pairCode (meets m r) (compare (held m) (held r))
+    → spareCode (comparedOf (compareWalk (front (m .update)) (front (m .id)) (front (r .update)) (front (r .id))))
+    ≡ pairCode (meets m r) (compare (held m) (held r))
 unfolding compared first unlawful
 meet-lawful m r e d =
-    ap spareCode (compare-walk narrow (omega arith) m r e d)
+    ap spareCode (ap comparedOf (compare-walk narrow (omega arith) m r e d) ∙ compared-standing narrow m r)
     ∙ simp (e, d) (spare-told (first ((overlap (held m) (held r), Overlap) ∷ (unseen (held m) (held r), Unseen) ∷ [])) (compare (held m) (held r)))
 
 meet-answer : (m r : Record) → isStored narrow m ≡ true
@@ -250,7 +252,7 @@ meet-answer m r e = by (isStored narrow r) refl
   where
     by : (b : Bool) → isStored narrow r ≡ b → meetCode m r ≡ pairCode (meets m r) (compare (held m) (held r))
     by true d =
-        ap (λ (b : Bool). cond b (spareCode (compareWalk (front (m .update)) (front (m .id)) (front (r .update)) (front (r .id)))) (codeOf Unfit)) d
+        ap (λ (b : Bool). cond b (spareCode (comparedOf (compareWalk (front (m .update)) (front (m .id)) (front (r .update)) (front (r .id))))) (codeOf Unfit)) d
         ∙ meet-lawful m r e d
     by false d = simp d
 

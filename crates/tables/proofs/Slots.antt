@@ -9,7 +9,9 @@ use Rattle.slots.proofs.Two as D
 use Rattle.slots.proofs.Two.Laws as D′
 use Rattle.scans.proofs.Scan as S
 use Rattle.scans.proofs.Scan.Laws as S′
-use Rattle.frames.proofs.Rows.{Plainly, number, struct, Ins}
+use Rattle.rules.proofs.Standing as C
+use Rattle.rules.proofs.Standing.Laws as C′
+use Rattle.frames.proofs.Rows.{Plainly, number, struct, choice, Ins}
 
 abbrev pub item : Plainly
 item = struct T.the-type T′.the-laws T′.the-plain T′.the-copy refl tt
@@ -22,6 +24,9 @@ two = struct D.the-type D′.the-laws D′.the-plain D′.the-copy refl tt
 
 abbrev pub scan : Plainly
 scan = struct S.the-type S′.the-laws S′.the-plain S′.the-copy refl tt
+
+abbrev pub standing : Plainly
+standing = choice C.the-type C′.the-laws C′.the-plain C′.the-copy tt tt
 
 abbrev pub gateOf : Ins 0 tt (number ∷ number ∷ number ∷ []) → ℕ
 gateOf a = gateCode (a .0) (a .1 .0) (a .1 .1 .0)

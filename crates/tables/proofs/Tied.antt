@@ -4,19 +4,19 @@ use Rattle.laws.proofs.Library.{leb-true, leb-false, ltb-false, not-false, eqb,
 use Rattle.laws.proofs.Below.{below-refl}
 use Rattle.laws.proofs.Tests.{clash}
 use Rattle.rules.specs.Limits.{narrow, records}
-use Rattle.rules.specs.Packed.{comparedNumber}
 use Rattle.rules.specs.Refusals.{first, long, many}
 use Rattle.rules.specs.Stamps.{Stamp, update, fork, join, compare}
 use Rattle.rules.specs.Stored.{stored, blank, absent, isStored, unlawful, held}
 use Rattle.rules.specs.Tables.{Table, outside, at, badSize, noSlot, lowest, full, stepped, slotNumber, sparedNumber}
-use Rattle.rules.specs.Tables.{updateAt, forkAt, joinAt, compareAt, spareAt}
+use Rattle.rules.specs.Tables.{updateAt, forkAt, joinAt, compareAt, standingAt, spareAt}
 use Rattle.rules.specs.declared.Record.{Record}
 use Rattle.rules.specs.declared.Answer.{Answer}
 use Rattle.rules.specs.declared.Answer.the-variants.{Done, Refused}
 use Rattle.rules.specs.declared.Refusal.the-variants.{Long, Many}
 use Rattle.rules.specs.declared.Verdict.the-variants.{Equal}
+use Rattle.rules.specs.declared.Standing.{Standing}
 use Rattle.slots.specs.Gates.{gateCode}
-use Rattle.slots.specs.Rules.{answerCode, oneOf, twoOf, slotTests, pairTests, meetTests, updateRule, forkRule, joinRule, compareRule}
+use Rattle.slots.specs.Rules.{answerCode, oneOf, twoOf, slotTests, pairTests, meetTests, updateRule, forkRule, joinRule, compareRule, notCompared}
 use Rattle.scans.specs.declared.Scan.{Scan}
 use Rattle.scans.specs.Scans.{foundOr, onwardTo, absentOrNext, weighOf, weighStart}
 use Rattle.tables.specs.Forks.{forkCode, forkList}
@@ -103,42 +103,38 @@ compare-self : (s : Stamp) → compare s s ≡ Equal
 unfolding compare
 compare-self s = rw (below-refl (s .update)) refl
 
--- a slot is equal to itself, where it has a lawful record
-same-slot : (t : Table) (a : ℕ) → badCount (length t) ≡ false → leb (length t) a ≡ false
-    → answerCode (first (slotTests (at t a) [])) 0 ≡ comparedNumber (compareAt narrow t a a)
-unfolding compareAt first badSize noSlot
-same-slot t a p q = by (absent narrow (at t a)) (unlawful narrow (at t a)) refl refl
+abbrev pub compareOf : Table → ℕ → ℕ → Standing
+compareOf t a b = cond (eqb (gateCode (length t) a b) 0) (compareRule a b (at t a) (at t b)) (notCompared (gateCode (length t) a b))
+
+-- a slot beside itself
+compare-same : (t : Table) (a : ℕ) → gateCode (length t) a a ≡ 0 → badCount (length t) ≡ false → leb (length t) a ≡ false
+    → compareOf t a a ≡ standingAt narrow t a a
+unfolding standingAt compareAt compareRule first badSize noSlot
+compare-same t a c p q = by (absent narrow (at t a)) (unlawful narrow (at t a)) refl refl
   where
-    by : (x y : Bool) → absent narrow (at t a) ≡ x → unlawful narrow (at t a) ≡ y
-        → answerCode (first (slotTests (at t a) [])) 0 ≡ comparedNumber (compareAt narrow t a a)
-    by true y hx hy = simp (p, q, hx)
-    by false true hx hy = simp (p, q, hx, hy)
-    by false false hx hy = simp (p, q, hx, hy, eq-eqb a a refl, compare-self (held (at t a)))
+    by : (x y : Bool) → absent narrow (at t a) ≡ x → unlawful narrow (at t a) ≡ y → compareOf t a a ≡ standingAt narrow t a a
+    by true y hx hy = simp (c, p, q, hx)
+    by false true hx hy = simp (c, p, q, hx, hy, eq-eqb a a refl)
+    by false false hx hy = simp (c, p, q, hx, hy, eq-eqb a a refl, compare-self (held (at t a)))
 
-abbrev pub compareCode : Table → ℕ → ℕ → ℕ
-compareCode t a b = cond (eqb (gateCode (length t) a b) 0) (compareRule a b (at t a) (at t b)) (gateCode (length t) a b)
-
-compare-same : (t : Table) (a b : ℕ) → badCount (length t) ≡ false → leb (length t) a ≡ false → gateCode (length t) a b ≡ 0 → eqb a b ≡ true
-    → compareCode t a b ≡ comparedNumber (compareAt narrow t a b)
-unfolding compareRule
-compare-same t a b p q c e = simp (c, e) (same-slot t a p q ∙ ap (λ (n : ℕ). comparedNumber (compareAt narrow t a n)) (eqb-true a b e))
-
-pub compare-tied : (t : Table) (a b : ℕ) → compareCode t a b ≡ comparedNumber (compareAt narrow t a b)
-unfolding compareAt compareRule first badSize noSlot
+pub compare-tied : (t : Table) (a b : ℕ) → compareOf t a b ≡ standingAt narrow t a b
+unfolding standingAt compareAt compareRule notCompared first badSize noSlot
 compare-tied t a b = by (gates (length t) a b)
   where
     one : (z : Bool) → absent narrow (at t a) ≡ z → badCount (length t) ≡ false → leb (length t) a ≡ false → leb (length t) b ≡ true
-        → gateCode (length t) a b ≡ 1003
-        → compareCode t a b ≡ comparedNumber (compareAt narrow t a b)
+        → gateCode (length t) a b ≡ 1003 → compareOf t a b ≡ standingAt narrow t a b
     one true z p q r c = simp (c, p, q, z)
     one false z p q r c = simp (c, p, q, r, z)
 
     two : (z : Bool) → eqb a b ≡ z → badCount (length t) ≡ false → leb (length t) a ≡ false → leb (length t) b ≡ false → gateCode (length t) a b ≡ 0
-        → compareCode t a b ≡ comparedNumber (compareAt narrow t a b)
-    two true z p q r c = compare-same t a b p q c z
+        → compareOf t a b ≡ standingAt narrow t a b
+    two true z p q r c =
+        let e = eqb-true a b z in
+        subst (λ (n : ℕ). compareOf t a n ≡ standingAt narrow t a n) e
+        (compare-same t a (subst (λ (n : ℕ). gateCode (length t) a n ≡ 0) (sym e) c) p q)
     two false z p q r c = simp (c, p, q, r, z)
 
-    by : Gate (length t) a b → compareCode t a b ≡ comparedNumber (compareAt narrow t a b)
+    by : Gate (length t) a b → compareOf t a b ≡ standingAt narrow t a b
     by (size p c) = simp (c, p)
     by (outA p q c) = simp (c, p, q)
     by (outB p q r c) = one (absent narrow (at t a)) refl p q r c

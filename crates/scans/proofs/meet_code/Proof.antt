@@ -1,5 +1,7 @@
 -- `scans::meet_code` meets its contract: what the walk over the words that count tells beside a lawful record, and else 12. Assumes nothing.
 use Rattle.laws.proofs.Library.{sym, ap, _∙_, needs}
+use Rattle.rules.specs.Values.{comparedOf}
+use Rattle.rules.specs.declared.Standing.{Standing}
 use Rattle.walks.specs.Walks.{compareWalk}
 use Rattle.scans.specs.Scans.{meetCode, spareCode}
 use Rattle.scans.proofs.meet_code.Statement.{statement}
@@ -16,7 +18,7 @@ returns c =
     let l = u .before .before .before .before in
     simp (sym (l .before .is-lawful-in .ensures) ∙ l .if1 .taken)
     (c .spare-code .ensures
-    ∙ ap spareCode
+    ∙ ap (λ (s : Standing). spareCode (comparedOf s))
     (k .compare .ensures ∙ (λ n. compareWalk (u .counted .ensures .1 n) (i .counted2 .ensures .1 n) (v .counted3 .ensures .1 n) (j .counted4 .ensures .1 n))))
 
 returns-2 : tie.Need-returns-2
