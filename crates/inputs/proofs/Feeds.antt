@@ -1,6 +1,6 @@
--- What gathering, running and printing a piece leave in the buffers, one after the other, is what the piece's definitions say. Assumes nothing.
-use Rattle.laws.proofs.Library.{_≡_, refl, sym, ap, _∙_, Bool, true, false, cond, _&&_, List, [], _∷_, _++_, append-nil, ℕ, _+_, _*_, _-_, _/_, _≤_, _<_}
-use Rattle.laws.proofs.Library.{arith, le-leb, leb-true, leb-false, eqb, leb, length, take, drop, length-append, drop-of-length-le}
+-- What gathering and running a piece leave in the buffer, one after the other, is what the piece's definitions say. Assumes nothing.
+use Rattle.laws.proofs.Library.{_≡_, refl, sym, ap, _∙_, Bool, true, false, cond, List, [], _∷_, _++_, append-nil, ℕ, _*_, _-_, _≤_, _<_, arith}
+use Rattle.laws.proofs.Library.{le-leb, leb-true, leb-false, eqb, leb, length, take, drop, drop-of-length-le}
 use Rattle.rules.specs.Limits.{narrow}
 use Rattle.rules.specs.Packed.{over}
 use Rattle.rules.specs.Tables.{Table}
@@ -8,16 +8,15 @@ use Rattle.rules.specs.Traces.{Text}
 use Rattle.laws.proofs.Tests.{no, and-left, and-right}
 use Rattle.lines.specs.declared.Command.{Command}
 use Rattle.lines.specs.declared.Gathered.{Gathered}
+use Rattle.lines.specs.declared.Unfinished.{Unfinished}
 use Rattle.lines.specs.Commands.{ended, left, numbers, gathered, gatheredIn}
 use Rattle.lines.specs.Runs.{answered, tableAfter}
 use Rattle.lines.proofs.Turns.{ended-few, numbers-length, held-back}
-use Rattle.printing.specs.declared.Printed.{Printed}
-use Rattle.printing.specs.Answers.{answersText, printed, printedIn}
 use Rattle.traces.specs.Serves.{ranTable, ranIn}
 use Rattle.traces.proofs.Ran.{answered-length}
 use Rattle.inputs.specs.declared.Trace.{Trace}
 use Rattle.inputs.specs.declared.Fed.{Fed}
-use Rattle.inputs.specs.Pieces.{roomFor, pieceText, after, fed, fedCommands, fedOut, closed, closedOut}
+use Rattle.inputs.specs.Pieces.{roomFor, hasRoom, pieceAnswers, after, fed, fedCommands, closed}
 
 -- ---- numbers at the front of a buffer
 
@@ -47,106 +46,84 @@ module _ (t : Table) (cs : List Command) where
   unfolding ranIn
   numbers-are = rw (held-back cs) (over-all (numbers (answered narrow t cs)) (numbers cs) same-room)
 
-module _ (ds : List Command) (out : List ℕ) (h : 11 * length ds ≤ length out) where
-  text-is : printed (numbers ds) out ≡ record { taken = true; len = length (answersText ds) }
-  unfolding printed
-  text-is = rw (le-leb (11 * (length (numbers ds) / 3)) (length out) (omega (arith, numbers-length ds)), held-back ds)
-
-  out-is : printedIn (numbers ds) out ≡ over (answersText ds) out
-  unfolding printedIn
-  out-is = rw (le-leb (11 * (length (numbers ds) / 3)) (length out) (omega (arith, numbers-length ds)), held-back ds)
-
 -- ---- a piece
 
-pub room-is : (n k m w : ℕ) → roomFor n k m w ≡ true → (3 * n ≤ k) × (11 * n ≤ m) × (n ≤ w)
-room-is n k m w e =
-    let l = and-left (leb (3 * n) k && leb (11 * n) m) (leb n w) e in (
-      leb-true (3 * n) k (and-left (leb (3 * n) k) (leb (11 * n) m) l),
-      leb-true (11 * n) m (and-right (leb (3 * n) k) (leb (11 * n) m) l),
-      leb-true n w (and-right (leb (3 * n) k && leb (11 * n) m) (leb n w) e),
-    )
+pub room-is : (n k w : ℕ) → roomFor n k w ≡ true → (3 * n ≤ k) × (n ≤ w)
+room-is n k w e = (leb-true (3 * n) k (and-left (leb (3 * n) k) (leb n w) e), leb-true n w (and-right (leb (3 * n) k) (leb n w) e))
 
-module _ (s : Trace) (p : Text) (commands out : List ℕ) where
-  -- without room
-  pub fed-none : roomFor (length p) (length commands) (length out) (s .budget) ≡ false
-      → (_≡_ {A = Fed} (record { trace = s; taken = false; len = 0 }) (fed s p commands out))
-      × (commands ≡ fedCommands s p commands out) × (out ≡ fedOut s p commands out)
-  unfolding fed fedCommands fedOut
-  fed-none e = (rw e, rw e, rw e)
-
-  -- with room: the commands stand at the front
-  pub gathered-is : 3 * length p ≤ length commands → (g : Gathered) → g ≡ gathered (s .line) p commands
-      → (g ≡ record { line = left (s .line) p; taken = true; count = length (ended (s .line) p) }) × (3 * g .count ≤ length commands)
+-- with room the commands stand at the front
+module _ (l : Unfinished) (p : Text) (commands : List ℕ) (w : ℕ) (e : roomFor (length p) (length commands) w ≡ true) (g : Gathered)
+    (ge : g ≡ gathered l p commands) where
+  gathered-is : g ≡ record { line = left l p; taken = true; count = length (ended l p) }
   unfolding gathered
-  gathered-is h g ge =
-      let gl : g ≡ record { line = left (s .line) p; taken = true; count = length (ended (s .line) p) } = rw (le-leb (3 * length p) (length commands) h) at ge in
-      (gl, omega (arith, ap (λ (x : Gathered). x .count) gl, ended-few p (s .line)))
+  gathered-is = rw (le-leb (3 * length p) (length commands) (room-is (length p) (length commands) w e .0)) at ge
 
-  -- what each call leaves is handed to the next
-  pub fed-all : (g : Gathered) (b : List ℕ) (t : Table) (d : List ℕ) (n : Printed) (o : List ℕ)
-      → roomFor (length p) (length commands) (length out) (s .budget) ≡ true
-      → g ≡ gathered (s .line) p commands → b ≡ gatheredIn (s .line) p commands → t ≡ ranTable (s .table) (take (3 * g .count) b)
-      → d ≡ ranIn (s .table) (take (3 * g .count) b) → n ≡ printed (take (3 * g .count) (d ++ drop (3 * g .count) b)) out
-      → o ≡ printedIn (take (3 * g .count) (d ++ drop (3 * g .count) b)) out
-      → (_≡_ {A = Fed} (record { trace = record { line = g .line; table = t; budget = s .budget - length p }; taken = true; len = n .len }) (fed s p commands out))
-      × (d ++ drop (3 * g .count) b ≡ fedCommands s p commands out) × (o ≡ fedOut s p commands out)
-  unfolding fed fedCommands fedOut gatheredIn after pieceText
-  fed-all g b t d n o e ge be te de ne oe =
-      let room = room-is (length p) (length commands) (length out) (s .budget) e in
+  pub gathered-few : 3 * g .count ≤ length commands
+  gathered-few = omega (arith, ap (λ (x : Gathered). x .count) gathered-is, ended-few p l, room-is (length p) (length commands) w e .0)
+
+module _ (s : Trace) (p : Text) (commands : List ℕ) where
+  -- without room
+  pub fed-none : hasRoom s p commands ≡ false
+      → (_≡_ {A = Fed} (record { trace = s; taken = false; count = 0 }) (fed s p commands)) × (commands ≡ fedCommands s p commands)
+  unfolding fed fedCommands
+  fed-none e = (rw e, rw e)
+
+  -- what gathering leaves is run
+  pub fed-all : (g : Gathered) (b : List ℕ) (t : Table) (d : List ℕ) → hasRoom s p commands ≡ true
+      → g ≡ gathered (s .line) p commands → b ≡ gatheredIn (s .line) p commands
+      → t ≡ ranTable (s .table) (take (3 * g .count) b) → d ≡ ranIn (s .table) (take (3 * g .count) b)
+      → (_≡_ {A = Fed} (record { trace = record { line = g .line; table = t; budget = s .budget - length p }; taken = true; count = g .count })
+      (fed s p commands))
+      × (d ++ drop (3 * g .count) b ≡ fedCommands s p commands)
+  unfolding fed fedCommands gatheredIn after
+  fed-all g b t d e ge be te de =
+      let room = room-is (length p) (length commands) (s .budget) e .0 in
       let cs = ended (s .line) p in
-      let ds = answered narrow (s .table) cs in
-      let fits : 11 * length ds ≤ length out = omega (arith, room .1, ended-few p (s .line), answered-length narrow cs (s .table)) in
-      let gl = gathered-is (room .0) g ge .0 in
-      let bl : b ≡ over (numbers cs) commands = rw (le-leb (3 * length p) (length commands) (room .0)) at be in
+      let gl = gathered-is (s .line) p commands (s .budget) e g ge in
+      let bl : b ≡ over (numbers cs) commands = rw (le-leb (3 * length p) (length commands) room) at be in
       let gc : 3 * g .count ≡ length (numbers cs) = omega (arith, ap (λ (x : Gathered). x .count) gl, numbers-length cs) in
       let front : take (3 * g .count) b ≡ numbers cs = rw (gc, bl) (take-front (numbers cs) _) in
       let behind : drop (3 * g .count) b ≡ drop (length (numbers cs)) commands = rw (gc, bl) (drop-front (numbers cs) _) in
-      let dl : d ≡ numbers ds = de ∙ rw front (numbers-are (s .table) cs) in
-      let same = same-room (s .table) cs in
-      let buffer : d ++ drop (3 * g .count) b ≡ over (numbers ds) commands = rw (dl, behind, same) in
-      let shown : take (3 * g .count) (d ++ drop (3 * g .count) b) ≡ numbers ds = rw (buffer, gc, ← same) (take-front (numbers ds) _) in
       let tl : t ≡ tableAfter narrow (s .table) cs = te ∙ rw front (table-is (s .table) cs) in
-      let nl : n ≡ record { taken = true; len = length (answersText ds) } = ne ∙ rw shown (text-is ds out fits) in
-      let ol : o ≡ over (answersText ds) out = oe ∙ rw shown (out-is ds out fits) in
-      rw e ((λ i. record { trace = record { line = gl i .line; table = tl i; budget = s .budget - length p }; taken = true; len = nl i .len }), buffer, ol)
-
-  -- with buffers of this size a piece is taken unless the trace takes not so many bytes more, and its text fits
-  pub fed-shown : (r : Fed) (o : List ℕ) → r ≡ fed s p commands out → o ≡ fedOut s p commands out → 3 * length p ≤ length commands → 11 * length p ≤ length out
-      → (r .taken ≡ false → r .trace .budget < length p) × (r .len ≤ length o)
-  unfolding fed fedOut
-  fed-shown r o re oe h k = by (leb (length p) (s .budget)) refl (rw full at re) (rw full at oe)
-    where
-      full : roomFor (length p) (length commands) (length out) (s .budget) ≡ leb (length p) (s .budget)
-      full = rw (le-leb (3 * length p) (length commands) h, le-leb (11 * length p) (length out) k)
-
-      by : (y : Bool) → leb (length p) (s .budget) ≡ y
-          → r ≡ cond y (record { trace = after s p; taken = true; len = length (pieceText s p) }) (record { trace = s; taken = false; len = 0 })
-          → o ≡ cond y (over (pieceText s p) out) out → (r .taken ≡ false → r .trace .budget < length p) × (r .len ≤ length o)
-      by true e re oe = (
-        λ n. absurd (no (sym n ∙ ap (λ (x : Fed). x .taken) re)),
-        rw (re, oe) (omega (arith, length-append (pieceText s p) (drop (length (pieceText s p)) out))),
+      let dl : d ≡ numbers (answered narrow (s .table) cs) = de ∙ rw front (numbers-are (s .table) cs) in
+      rw (e, answered-length narrow cs (s .table)) (
+        (λ i. record { trace = record { line = gl i .line; table = tl i; budget = s .budget - length p }; taken = true; count = gl i .count }),
+        rw (dl, behind, same-room (s .table) cs),
       )
-      by false e re oe = (λ n. rw re (leb-false (length p) (s .budget) e), rw re (omega arith))
+
+  -- with a buffer of this size a piece is taken unless the trace takes not so many bytes more, and its answers fit
+  pub fed-shown : (r : Fed) → r ≡ fed s p commands → 3 * length p ≤ length commands
+      → (r .taken ≡ false → r .trace .budget < length p) × (3 * r .count ≤ length commands)
+  unfolding fed
+  fed-shown r re h = by (leb (length p) (s .budget)) refl (rw (le-leb (3 * length p) (length commands) h) at re)
+    where
+      by : (y : Bool) → leb (length p) (s .budget) ≡ y
+          → r ≡ cond y (record { trace = after s p; taken = true; count = length (pieceAnswers s p) }) (record { trace = s; taken = false; count = 0 })
+          → (r .taken ≡ false → r .trace .budget < length p) × (3 * r .count ≤ length commands)
+      by true e re = (
+        λ n. absurd (no (sym n ∙ ap (λ (x : Fed). x .taken) re)),
+        rw (re, answered-length narrow (ended (s .line) p) (s .table)) (omega (arith, ended-few p (s .line), h)),
+      )
+      by false e re = (λ n. rw re (leb-false (length p) (s .budget) e), rw re (omega arith))
 
   -- and what was taken the trace takes no more
-  pub fed-less : (r : Fed) → r ≡ fed s p commands out → r .taken ≡ true → 0 < length p → r .trace .budget < s .budget
+  pub fed-less : (r : Fed) → r ≡ fed s p commands → r .taken ≡ true → 0 < length p → r .trace .budget < s .budget
   unfolding fed after
-  fed-less r re took h = by (roomFor (length p) (length commands) (length out) (s .budget)) refl re
+  fed-less r re took h = by (hasRoom s p commands) refl re
     where
-      by : (y : Bool) → roomFor (length p) (length commands) (length out) (s .budget) ≡ y
-          → r ≡ cond y (record { trace = after s p; taken = true; len = length (pieceText s p) }) (record { trace = s; taken = false; len = 0 })
+      by : (y : Bool) → hasRoom s p commands ≡ y
+          → r ≡ cond y (record { trace = after s p; taken = true; count = length (pieceAnswers s p) }) (record { trace = s; taken = false; count = 0 })
           → r .trace .budget < s .budget
-      by true e re = rw re (omega (arith, h, room-is (length p) (length commands) (length out) (s .budget) e .2))
+      by true e re = rw re (omega (arith, h, room-is (length p) (length commands) (s .budget) e .1))
       by false e re = absurd (no (sym (ap (λ (x : Fed). x .taken) re) ∙ took))
 
 -- the same at the end of the input
-module _ (s : Trace) (commands out : List ℕ) where
-  pub closed-shown : (r : Fed) (o : List ℕ) → r ≡ closed s commands out → o ≡ closedOut s commands out → 3 ≤ length commands → 11 ≤ length out
-      → (r .taken ≡ false → r .trace .budget < 1) × (r .len ≤ length o)
-  unfolding closed closedOut
-  closed-shown r o re oe h k = by (eqb (s .line .len) 0) re oe
-    where
-      by : (b : Bool) → r ≡ cond b (record { trace = s; taken = true; len = 0 }) (fed s (10 ∷ []) commands out) → o ≡ cond b out (fedOut s (10 ∷ []) commands out)
-          → (r .taken ≡ false → r .trace .budget < 1) × (r .len ≤ length o)
-      by true re oe = (λ n. absurd (no (sym n ∙ ap (λ (x : Fed). x .taken) re)), rw re (omega arith))
-      by false re oe = fed-shown s (10 ∷ []) commands out r o re oe h k
+pub closed-shown : (s : Trace) (commands : List ℕ) (r : Fed) → r ≡ closed s commands → 3 ≤ length commands
+    → (r .taken ≡ false → r .trace .budget < 1) × (3 * r .count ≤ length commands)
+unfolding closed
+closed-shown s commands r re h = by (eqb (s .line .len) 0) re
+  where
+    by : (b : Bool) → r ≡ cond b (record { trace = s; taken = true; count = 0 }) (fed s (10 ∷ []) commands)
+        → (r .taken ≡ false → r .trace .budget < 1) × (3 * r .count ≤ length commands)
+    by true re = (λ n. absurd (no (sym n ∙ ap (λ (x : Fed). x .taken) re)), rw re (omega arith))
+    by false re = fed-shown s (10 ∷ []) commands r re h

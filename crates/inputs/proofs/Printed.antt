@@ -1,11 +1,9 @@
 -- All pieces together print what the rules say of the whole input, however it was cut. What a piece leaves is what the next one starts from, so the
 -- pieces' answers are the answers to all lines, one after the other. Assumes nothing.
 use Rattle.laws.proofs.Library.{_≡_, refl, ap, _∙_, Bool, true, false, cond, List, [], _∷_, _++_, eqb}
-use Rattle.rules.specs.Limits.{narrow, records}
-use Rattle.rules.specs.Tables.{freshTable}
+use Rattle.rules.specs.Limits.{narrow}
 use Rattle.rules.specs.Traces.{Text, traced}
-use Rattle.lines.specs.declared.Command.{Command}
-use Rattle.lines.specs.Commands.{parsed, begun, ended, left, lastLine, allGathered, whole}
+use Rattle.lines.specs.Commands.{parsed, ended, left, lastLine, allGathered, whole}
 use Rattle.lines.specs.Runs.{answered, tableAfter}
 use Rattle.lines.proofs.Runs.{answered-append}
 use Rattle.printing.specs.Answers.{answersText}
@@ -27,11 +25,13 @@ pub text-all : (ps : List Text) (s : Trace) → textOf s ps ≡ answersText (ans
 unfolding textOf allGathered pieceText after
 text-all [] s = end-last s
 text-all (p ∷ ps) s =
+    let cs = ended (s .line) p in
+    let rest = allGathered (left (s .line) p) ps in
     rw (
-      answered-append narrow (ended (s .line) p) (allGathered (left (s .line) p) ps) (s .table),
-      answers-append (answered narrow (s .table) (ended (s .line) p)) (answered narrow (tableAfter narrow (s .table) (ended (s .line) p)) (allGathered (left (s .line) p) ps)),
+      answered-append narrow cs rest (s .table),
+      answers-append (answered narrow (s .table) cs) (answered narrow (tableAfter narrow (s .table) cs) rest),
     )
-    (ap (λ (t : Text). answersText (answered narrow (s .table) (ended (s .line) p)) ++ t) (text-all ps (after s p)))
+    (ap (λ (t : Text). answersText (answered narrow (s .table) cs) ++ t) (text-all ps (after s p)))
 
 -- what a program prints that feeds the pieces and then closes
 pub printed-traced : (ps : List Text) → textOf started ps ≡ traced narrow (whole ps)

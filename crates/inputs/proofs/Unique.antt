@@ -11,8 +11,8 @@ start-one-answer M 𝓤 H A mem run = (refl, λ κs a g h r s v w. both-say 𝓤
 
 pub feed-one-answer : OneAnswer feed.ended (λ M 𝓤. feed.clauses 𝓤) (λ M 𝓤. feed.spec 𝓤)
 feed-one-answer M 𝓤 H A mem run =
-    (refl, λ κs a g h r s v w. both-say 𝓤 (λ e f. (agree (e .0) (f .0), λ i. (tt, (tt, (agree (e .1) (f .1) i, (agree (e .2) (f .2) i, tt)))))))
+    (refl, λ κs a g h r s v w. both-say 𝓤 (λ e f. (agree (e .0) (f .0), λ i. (tt, (tt, (agree (e .1) (f .1) i, tt))))))
 
 pub close-one-answer : OneAnswer close.ended (λ M 𝓤. close.clauses 𝓤) (λ M 𝓤. close.spec 𝓤)
 close-one-answer M 𝓤 H A mem run =
-    (refl, λ κs a g h r s v w. both-say 𝓤 (λ e f. (agree (e .0) (f .0), λ i. (tt, (agree (e .1) (f .1) i, (agree (e .2) (f .2) i, tt))))))
+    (refl, λ κs a g h r s v w. both-say 𝓤 (λ e f. (agree (e .0) (f .0), λ i. (tt, (agree (e .1) (f .1) i, tt)))))

@@ -1,5 +1,5 @@
 -- `inputs::has_room` meets its contract: each test is one of the definition's. Assumes nothing.
-use Rattle.laws.proofs.Library.{_≡_, le-leb, lt-leb, arith, _*_}
+use Rattle.laws.proofs.Library.{le-leb, lt-leb, arith, _*_}
 use Rattle.inputs.proofs.has_room.Statement.{statement}
 use Rattle.inputs.proofs.has_room.Tie as tie
 
@@ -7,14 +7,7 @@ returns : tie.Need-returns
 returns c = let g = c .before .args in simp (lt-leb (3 * g .n) (g .commands) (omega (arith, c .if1 .taken)))
 
 returns-2 : tie.Need-returns-2
-returns-2 c =
-    let g = c .before .before .args in
-    simp (le-leb (3 * g .n) (g .commands) (omega (arith, c .before .if1 .left)), lt-leb (11 * g .n) (g .out) (omega (arith, c .if2 .taken)))
-
-returns-3 : tie.Need-returns-3
-returns-3 c =
-    let g = c .before .before .args in
-    simp (le-leb (3 * g .n) (g .commands) (omega (arith, c .before .if1 .left)), le-leb (11 * g .n) (g .out) (omega (arith, c .if2 .left)))
+returns-2 c = let g = c .before .args in simp (le-leb (3 * g .n) (g .commands) (omega (arith, c .if1 .left)))
 
 pub has-room-spec : {M : Type 1} → statement M
-has-room-spec = tie.close (tie.spec returns returns-2 returns-3)
+has-room-spec = tie.close (tie.spec returns returns-2)

@@ -1,5 +1,5 @@
 -- `inputs::start` meets its contract: the line and the table are those that its two callees give. Assumes nothing.
-use Rattle.laws.proofs.Library.{needs, _≡_, _-_, _^_}
+use Rattle.laws.proofs.Library.{needs, _-_, _^_}
 use Rattle.inputs.specs.Pieces.{started}
 use Rattle.inputs.proofs.start.Statement.{statement}
 use Rattle.inputs.proofs.start.Tie as tie

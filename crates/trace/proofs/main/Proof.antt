@@ -1,4 +1,5 @@
--- `trace::main` lends `answer` buffers of the lengths that it asks for: three numbers and 11 bytes for each byte of a piece. Assumes nothing.
+-- `trace::main` lends `answer` buffers of the lengths that it asks for: three numbers for each byte of a piece, and room for the longest answer.
+-- Assumes nothing.
 use Rattle.laws.proofs.Library.{needs, arith, ℕ, _*_, _≤_, length, replicate, length-replicate}
 use Rattle.trace.proofs.main.Statement.{statement}
 use Rattle.trace.proofs.main.Tie as tie
@@ -8,7 +9,7 @@ room : (k m n : ℕ) → k * m ≤ n → k * length {A = ℕ} (replicate m 0) �
 room k m n h = rw (length-replicate {A = ℕ} m 0, length-replicate {A = ℕ} n 0) h
 
 answer-requires : tie.Need-answer-requires
-answer-requires c κs = (search needs, (room 3 16384 49152 (omega arith), room 11 16384 180224 (omega arith)))
+answer-requires c κs = (search needs, (room 3 4096 12288 (omega arith), search needs))
 
 pub main-spec : {M : Type 1} → statement M
 main-spec = tie.close (tie.spec (λ c κs. search needs) (λ c. search needs) (λ c κs. search needs) (λ c. search needs) (λ c κs. search needs)
