@@ -1,6 +1,6 @@
 -- All pieces together print what the rules say of the whole input, however it was cut. What a piece leaves is what the next one starts from, so the
 -- pieces' answers are the answers to all lines, one after the other. Assumes nothing.
-use Rattle.laws.proofs.Library.{_≡_, refl, ap, _∙_, Bool, true, false, cond, List, [], _∷_, _++_, eqb}
+use Rattle.laws.proofs.Library.{_≡_, refl, ap, _∙_, Bool, true, false, cond, List, [], _∷_, _++_, arith, eqb}
 use Rattle.rules.specs.Limits.{narrow}
 use Rattle.rules.specs.Traces.{Text, traced}
 use Rattle.lines.specs.Commands.{parsed, ended, left, lastLine, allGathered, whole}
@@ -36,4 +36,4 @@ text-all (p ∷ ps) s =
 -- what a program prints that feeds the pieces and then closes
 pub printed-traced : (ps : List Text) → textOf started ps ≡ traced narrow (whole ps)
 unfolding started
-printed-traced ps = text-all ps started ∙ prints-traced narrow ps
+printed-traced ps = text-all ps started ∙ prints-traced narrow (omega arith) ps

@@ -67,7 +67,7 @@ fn tell(t: &[Record], op: u64, a: usize, b: usize) -> Command
     ensures { λ r. ⌜ r ≡ toldBy (now (t .entry)) op a b ⌝ }
 {
     if op == COMPARE {
-        return stood(tables::compare(t, a, b), b);
+        return stood(op, tables::compare(t, a, b), b);
     }
     if op == SPARE {
         return numbered(op, tables::spare(t, a), b);
@@ -103,8 +103,8 @@ fn numbered(op: u64, n: u64, b: usize) -> Command
 }
 
 // A compare with its answer: its number, or of a conflict the words of both uncovered strings.
-fn stood(s: Standing, b: usize) -> Command
-    ensures { λ r. ⌜ r ≡ stood (command 67 0 b) s ⌝ }
+fn stood(op: u64, s: Standing, b: usize) -> Command
+    ensures { λ r. ⌜ r ≡ stood (command op 0 b) s ⌝ }
 {
     match s {
         Standing::Conflict(x, y) => Command {
@@ -112,7 +112,7 @@ fn stood(s: Standing, b: usize) -> Command
             a: x.word as usize,
             b: y.word as usize,
         },
-        _ => numbered(COMPARE, compared_code(s), b),
+        _ => numbered(op, compared_code(s), b),
     }
 }
 
@@ -132,8 +132,8 @@ fn command_at(commands: &[u64], k: usize) -> Command
 }
 
 // A command in the place of the k-th, if there is one.
-fn put_at(commands: &mut [u64], k: usize, c: Command)
-    ensures { ⌜ now (commands .exit) ≡ putAt (now (commands .entry)) k c ⌝ }
+fn put_at(commands: &mut [u64], k: usize, c: Command) -> u64
+    ensures { λ r. ⌜ (r ≡ c .op) × (now (commands .exit) ≡ putAt (now (commands .entry)) k c) ⌝ }
 {
     if k < commands.len() / 3 {
         let i = 3 * k;
@@ -141,4 +141,5 @@ fn put_at(commands: &mut [u64], k: usize, c: Command)
         commands[i + 1] = c.a as u64;
         commands[i + 2] = c.b as u64;
     }
+    c.op
 }

@@ -23,7 +23,7 @@ use Rattle.rules.specs.Traces.{lineTable}
 use Rattle.rules.specs.declared.Record.{Record}
 use Rattle.rules.proofs.Record as T
 use Rattle.lines.specs.declared.Command.{Command}
-use Rattle.lines.specs.Runs.{meant, answerNumber}
+use Rattle.lines.specs.Runs.{meant, answer}
 use Rattle.lines.proofs.Command as C
 use Rattle.lines.proofs.Command.Laws as C′
 use Rattle.tables.proofs.Asks.{holds-true, holds-false}
@@ -49,12 +49,12 @@ said κs cs a r ds = (r ≡ comes (length cs / 3 - 0) (3 * 0) (a .0) cs .0) × (
 abbrev found : Tells number (number ∷ []) command
 found κs cs a r = r ≡ commandAt cs (a .0)
 
-abbrev served : Says item (number ∷ number ∷ number ∷ []) number
-served κs ys a r zs = (r ≡ answerNumber narrow ys (meant (said-by (a .0) (a .1 .0) (a .1 .1 .0)))) ×
+abbrev served : Says item (number ∷ number ∷ number ∷ []) command
+served κs ys a r zs = (r ≡ answer narrow ys (said-by (a .0) (a .1 .0) (a .1 .1 .0))) ×
     (zs ≡ lineTable narrow ys (meant (said-by (a .0) (a .1 .0) (a .1 .1 .0))))
 
-abbrev stored : Says number (number ∷ number ∷ []) number
-stored κs cs a r ds = (r ≡ a .1 .0) × (ds ≡ putAt cs (a .0) (a .1 .0))
+abbrev stored : Says number (number ∷ command ∷ []) number
+stored κs cs a r ds = (r ≡ a .1 .0 .op) × (ds ≡ putAt cs (a .0) (a .1 .0))
 
 -- where the loop stands: the index, the table and the buffer so far, and what is known of them
 record At (ys : List Record) (cs : List ℕ) : Type 0 where
@@ -74,8 +74,8 @@ fewer-wf ys cs = record { apply = λ t. InvImage·accessible (λ (u : At ys cs).
 
 module _ {M : Type 1} (𝓤 : URA M) (H : Heap 𝓤) (A : Atoms 𝓤) (W : Given 𝓤 H A) (𝓣 : Tables 𝓤 H)
     (known-at : Triple 𝓤 (𝓣 .C at-def.name) (Answers 𝓤 H A number (number ∷ []) command found))
-    (known-serve : Triple 𝓤 (𝓣 .C serve-def.name) (Changes 𝓤 H A item (number ∷ number ∷ number ∷ []) number served))
-    (known-put : Triple 𝓤 (𝓣 .C put-def.name) (Changes 𝓤 H A number (number ∷ number ∷ []) number stored)) where
+    (known-serve : Triple 𝓤 (𝓣 .C serve-def.name) (Changes 𝓤 H A item (number ∷ number ∷ number ∷ []) command served))
+    (known-put : Triple 𝓤 (𝓣 .C put-def.name) (Changes 𝓤 H A number (number ∷ command ∷ []) number stored)) where
   module _ (b o : ℕ) (ys : List Record) (cs : List ℕ) (gn : Room (number .row) (length cs)) (Post : Val → SProp 𝓤) (S : Fml)
       (bs : Blocks (code.function .locals)) where
     -- the context at the loop's head: [the locals, 0 to 16, of which 3 is the table as a run; what frees them; the buffer, 18; what closes it]
@@ -106,15 +106,15 @@ module _ {M : Type 1} (𝓤 : URA M) (H : Heap 𝓤) (A : Atoms 𝓤) (W : Given
         sets ! (addr ! (from ! (stop !))) refl (tt, tt) $
         sets ! (agg ! (and-then ! (var ! refl) (and-then ! (lit ! tt) (no-more !)))) refl (tt, (tt, (record { fits = lit< tt }, tt))) $
         rewrite ! 13 (λ (m : ℕ). ‵ (fat fullShare (spotOf 𝓤 H (here .env) 13 .0) (spotOf 𝓤 H (here .env) 13 .1) 0 (sliceVal (l₃, 0) m))) (sym (t .len)) refl $
-        hands ! fm item (number ∷ number ∷ number ∷ []) number served known-serve (t .zs) l₃ 0 (subst (Room T.the-row) (sym (t .len)) (lit< tt, lit< tt)) 3 refl
+        hands ! fm item (number ∷ number ∷ number ∷ []) command served known-serve (t .zs) l₃ 0 (subst (Room T.the-row) (sym (t .len)) (lit< tt, lit< tt)) 3 refl
         (λ _. (c .op, (c .a, (c .b, tt)))) (λ _. (fields .0, (fields .1 .0, (fields .1 .1 .0, tt))))
         (λ _ _ _. and-then ! (var₁ ! refl) (and-then ! (piece₁ ! refl refl refl) (and-then ! (piece₁ ! refl refl refl)
         (and-then ! (piece₁ ! refl refl refl) (no-more !))))) refl (λ _. refl) (λ _ d zs len done′ is₁.
         relends ! _ _ _ (gd .0) refl $
-        hands ! fm number (number ∷ number ∷ []) number stored known-put (t .ds) b o gd 18 refl (λ _. (t .i, (d, tt))) (λ _. ((refl, gi), (is₁, tt)))
+        hands ! fm number (number ∷ command ∷ []) number stored known-put (t .ds) b o gd 18 refl (λ _. (t .i, (d, tt))) (λ _. ((refl, gi), (is₁, tt)))
         (λ _ _ _. and-then ! (var₂ ! refl) (and-then ! (var₂ ! refl) (and-then ! (var₂ ! refl) (no-more !)))) refl (λ _. refl) (λ _ r ds same put′ is₂.
         sets-last ! here t (bin ! (var ! refl) (lit ! tt) (record { fits = omega (arith, gi, gn .0) })) refl (tt, record { fits = omega (arith, gn .0) }) $
-        let answer = done′ .0 ∙ ap (λ (e : Command). answerNumber narrow (t .zs) (meant e)) at in
+        let told = done′ .0 ∙ ap (answer narrow (t .zs)) at in
         let next : At ys cs = record {
           i = t .i + 1;
           zs = zs;
@@ -123,7 +123,7 @@ module _ {M : Type 1} (𝓤 : URA M) (H : Heap 𝓤) (A : Atoms 𝓤) (W : Given
           len = len ∙ t .len;
           same = same ∙ t .same;
           kept = runs-step (length cs / 3) (t .i) (t .zs) zs (t .ds) ds l (subst (λ (k : ℕ). t .i < k / 3) (sym (t .same)) l)
-              (done′ .1 ∙ ap (λ (e : Command). lineTable narrow (t .zs) (meant e)) at) (put′ .1 ∙ ap (putAt (t .ds) (t .i)) answer) ∙ t .kept;
+              (done′ .1 ∙ ap (λ (e : Command). lineTable narrow (t .zs) (meant e)) at) (put′ .1 ∙ ap (putAt (t .ds) (t .i)) told) ∙ t .kept;
         } in
         turns-to ! here t next (omega arith) $ forgets ! (6 ∷ 7 ∷ 9 ∷ 10 ∷ 11 ∷ 12 ∷ 13 ∷ 14 ∷ 15 ∷ 16 ∷ []) refl $
         rewrite ! 1 (λ (m : ℕ). ‵ (fat fullShare (spotOf 𝓤 H (here .env) 1 .0) (spotOf 𝓤 H (here .env) 1 .1) 0 (sliceVal (b, o) m))) (sym same) refl $ done !))))
