@@ -2,15 +2,14 @@
 -- compared. Assumes nothing.
 use Rattle.laws.proofs.Library.{_≡_, ap, _∙_, List, ℕ, needs, lit≤}
 use Rattle.rules.specs.Limits.{narrow}
-use Rattle.rules.specs.Values.{compared}
-use Rattle.rules.specs.Packed.{readStamp, comparedAfter, packedCompare}
-use Rattle.rules.specs.declared.Verdict.the-variants.{Equal}
+use Rattle.rules.specs.Values.{standing}
+use Rattle.rules.specs.Packed.{readStamp, packedCompare, packedStanding}
 use Rattle.rules.specs.declared.Record.{Record}
 use Rattle.rules.specs.declared.Refusal.{Refusal}
 use Rattle.rules.specs.declared.Answer.{Answer}
 use Rattle.rules.specs.declared.Answer.the-variants.{Refused}
-use Rattle.rules.specs.declared.Compared.{Compared}
-use Rattle.rules.specs.declared.Compared.the-variants.{Is, Refused as NotCompared}
+use Rattle.rules.specs.declared.Standing.{Standing}
+use Rattle.walks.specs.Walks.{standAfter}
 use Rattle.walks.proofs.Meets.{compare-walk}
 use Rattle.reading.proofs.Lent.{givenBy}
 use Rattle.calls.proofs.Laws.{Read, was-read, not-read}
@@ -18,21 +17,21 @@ use Rattle.calls.proofs.compare.Statement.{statement}
 use Rattle.calls.proofs.compare.Tie as tie
 
 -- a refusal that was passed out
-passed : {c : Compared} {a : Answer} {r : Refusal} → c ≡ comparedAfter a (Is Equal) → a ≡ Refused r → c ≡ NotCompared r
-passed e t = e ∙ ap (λ (b : Answer). comparedAfter b (Is Equal)) t
+passed : {s : Standing} {a : Answer} {r : Refusal} → s ≡ standAfter a Standing.Equal → a ≡ Refused r → s ≡ Standing.Refused r
+passed e t = e ∙ ap (λ (b : Answer). standAfter b Standing.Equal) t
 
 module _ (s t : List ℕ) where
-  first-refused : {r : Refusal} → readStamp narrow s .answer ≡ Refused r → NotCompared r ≡ packedCompare narrow s t
-  unfolding packedCompare
+  first-refused : {r : Refusal} → readStamp narrow s .answer ≡ Refused r → Standing.Refused r ≡ packedStanding narrow s t
+  unfolding packedStanding packedCompare
   first-refused n = rw n
 
   module _ {a : Record} (x : Read s a) where
-    second-refused : {r : Refusal} → readStamp narrow t .answer ≡ Refused r → NotCompared r ≡ packedCompare narrow s t
-    unfolding packedCompare
+    second-refused : {r : Refusal} → readStamp narrow t .answer ≡ Refused r → Standing.Refused r ≡ packedStanding narrow s t
+    unfolding packedStanding packedCompare
     second-refused n = rw (x .is, n)
 
-    both-read : {b : Record} → Read t b → compared narrow a b ≡ packedCompare narrow s t
-    unfolding packedCompare
+    both-read : {b : Record} → Read t b → standing narrow a b ≡ packedStanding narrow s t
+    unfolding standing packedStanding packedCompare
     both-read y = rw (x .is, y .is)
 
 -- the stamps that were read
