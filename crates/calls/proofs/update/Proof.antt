@@ -52,10 +52,6 @@ module _ (c : tie.After-enum-told) where
       (givenBy (reading .read-in .result) (reading .read-in .last .1 .0) (reading .read-in .last .1 .1 .0) .stamp)
   read = was-read (reading .read-in .ensures) (c .enum-told .given .1)
 
--- neither name has more strings than words were lent
-inside : tie.Need-array-share-prefix-i
-inside c = let x = read c in omega (arith, x .id .full, x .id .few, x .update .few)
-
 returns : tie.Need-returns
 returns c =
     let no = c .before .enum-told2 .given .1 in
@@ -69,4 +65,5 @@ returns-2 c =
 
 pub update-spec : {M : Type 1} → statement M
 update-spec = tie.close (tie.spec (λ c κs. search needs) (λ c. search needs) (λ c. search needs) (λ c κs. search needs) returns
-    inside (λ c. sym (length-take-le _ _ (inside (c .before)))) (λ c κs. search needs) (λ c. search needs) returns-2)
+    (λ c. search (arith, read c .update, read c .id)) (λ c. sym (length-take-le _ _ (search (arith, read (c .before) .update, read (c .before) .id))))
+    (λ c κs. search needs) (λ c. search needs) returns-2)
