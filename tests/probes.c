@@ -1,6 +1,7 @@
 /* What the header does not export, through crates/probes, against the second implementation: every answer, every record and every
  * byte, with guards around what is lent. Stamps by value, packed reading and writing by value, the uncovered strings of two stamps,
- * entries of bundles, which of two to keep and where it stands; and the table of copies at every size from 0 to 35, with absent, lawful, unlawful, old and doubled records.
+ * entries of bundles, which of two to keep and where it stands; and the table of copies at every size from 0 to 35, with absent,
+ * lawful, unlawful, old and doubled records.
  *
  * usage: probes ROUNDS SEED     (prints what was met, or the first difference; status 1 on a difference) */
 #include "probes.h"
@@ -310,8 +311,9 @@ int main(int argc, char **argv) {
         if (k % 8 == 0) bundles();
         if (k % 8 == 4) tables();
     }
-    const tallied *all[] = {&is_lawful_met, &updated_met, &forked_met, &joined_met, &met_met, &compared_met, &stood_met,
-                            &places_met[FIRST], &places_met[SECOND], &digits_met, &read_met, &write_met, &entry_met, &keep_met, &fresh_met, &update_met, &fork_met, &join_met, &compare_met, &spare_met, &outsized_met};
+    const tallied *all[] = {&is_lawful_met, &updated_met, &forked_met, &joined_met, &met_met, &compared_met, &stood_met, &places_met[FIRST],
+                            &places_met[SECOND], &digits_met, &read_met, &write_met, &entry_met, &keep_met, &fresh_met, &update_met,
+                            &fork_met, &join_met, &compare_met, &spare_met, &outsized_met};
     int missing = 0, unused = 0;
     for (size_t k = 0; k < sizeof all / sizeof all[0]; k++) missing += tally_show(all[k]);
     for (size_t n = 0; n < SIZES; n++) unused += sizes[n] == 0;

@@ -175,8 +175,8 @@ static void pack(bytes *x, const field *u, const field *i) {
  * it (5, 6: refused 9). The first string is in both ids. */
 void two_apart(bytes *x, bytes *y) {
     field u = {0}, i = {0}, v = {0}, j = {0};
-    unsigned n = (unsigned)(1 + below(16)), deep = (unsigned)(6 + below(18)), alike = (unsigned)(1 + below(30)), strange = below(4) == 0;
-    unsigned step = (unsigned)(2 + below((1u << (deep - 4)) - 2)), s = (unsigned)below(step);
+    unsigned n = (unsigned)(below(2) ? 16 : 1 + below(16)), alike = (unsigned)(1 + below(40)), strange = below(4) == 0;
+    unsigned deep = (unsigned)(6 + below(18)), step = (unsigned)(2 + below((1u << (deep - 4)) - 2)), s = (unsigned)below(step);
     if (below(3) == 0) deep = 23;
     for (unsigned k = 0; k < n; k++, s += step) {
         unsigned kind = below(alike) ? 0 : (unsigned)(1 + below(k == 0 ? 2 : strange ? 6 : 4));
