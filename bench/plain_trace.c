@@ -7,7 +7,7 @@
 #include <string.h>
 #include <unistd.h>
 
-enum { SLOTS = 32, IN = 1 << 16, OUT = 1 << 16, LINE = 8, ANSWER = 16 };
+enum { SLOTS = 32, IN = 1 << 16, OUT = 1 << 16, LINE = 8, ANSWER = 64 };
 
 static stamp table[SLOTS];
 static uint32_t present = 1; /* a bit for each slot */
@@ -44,6 +44,11 @@ static void ok(unsigned slot) {
     say_number(slot);
 }
 
+static inline void say_string(uint64_t s) {
+    out[out_len++] = ' ';
+    for (unsigned k = length_of(s); k; k--, s <<= 1) out[out_len++] = (uint8_t)('0' + (s >> 63));
+}
+
 static inline bool absent(unsigned a) { return a >= SLOTS || !(present >> a & 1); }
 
 static void update(unsigned a) {
@@ -76,16 +81,30 @@ static void join(unsigned a, unsigned b) {
     ok(a);
 }
 
+/* The place of the first string of m that none of n extends, or how many m has. */
+static inline unsigned uncovered(const name *m, const name *n) {
+    unsigned i = 0, j = 0;
+    for (; i < m->n; i++) {
+        uint64_t s = m->w[i];
+        while (j < n->n && n->w[j] < s) j++;
+        if (j == n->n || n->w[j] > last_of(s)) break;
+    }
+    return i;
+}
+
 static void compare(unsigned a, unsigned b) {
     if (absent(a) || absent(b)) return refused(3);
-    unsigned no = a == b ? 0 : meet(&table[a], &table[b]);
+    if (a == b) return say("equal\n", 6);
+    unsigned no = meet(&table[a], &table[b]);
     if (no) return refused(no);
-    switch (a == b ? 0 : verdict(&table[a], &table[b])) {
-    case 0: return say("equal\n", 6);
-    case 1: return say("obsolete\n", 9);
-    case 2: return say("newer\n", 6);
-    default: return say("conflict\n", 9);
-    }
+    const name *u = &table[a].u, *v = &table[b].u;
+    unsigned p = uncovered(u, v), q = uncovered(v, u);
+    if (p == u->n) return q == v->n ? say("equal\n", 6) : say("obsolete\n", 9);
+    if (q == v->n) return say("newer\n", 6);
+    say("conflict", 8);
+    say_string(u->w[p]);
+    say_string(v->w[q]);
+    out[out_len++] = '\n';
 }
 
 static void spare(unsigned a) {

@@ -61,8 +61,7 @@ static void same_room(const bytes *x) {
 static void one_round(void) {
     bytes x, y, was_x, was_y, tmp;
     guarded p, q, r, s;
-    any_stamp(&x);
-    any_stamp(&y);
+    any_two(&x, &y);
     was_x = x;
     was_y = y;
     uint64_t got, want;

@@ -40,8 +40,8 @@ def strings():
 def halves():
     """16 strings and their 16 siblings make a union of 32 that reduces to the whole; against half of itself it stays 32."""
     return [*GROWN, *[("J 0 %d" % s, "ok 0") for s in range(1, 16)], *[("J 16 %d" % s, "ok 16") for s in range(17, 32)],
-            ("U 0", "ok 0"), ("U 16", "ok 16"), ("C 0 16", "conflict"),
-            ("F 0", "ok 1"), ("J 0 16", "refused 7"), ("J 16 1", "refused 7"), ("C 0 1", "equal"), ("C 1 16", "conflict"),
+            ("U 0", "ok 0"), ("U 16", "ok 16"), ("C 0 16", "conflict 00000 00001"),
+            ("F 0", "ok 1"), ("J 0 16", "refused 7"), ("J 16 1", "refused 7"), ("C 0 1", "equal"), ("C 1 16", "conflict 00000 00001"),
             ("J 0 1", "ok 0"), ("J 16 0", "ok 16"), ("J 16 0", "refused 3"), ("J 0 16", "refused 3"),
             ("F 16", "ok 0"), ("J 0 16", "ok 0"), *to_the_end(range(1, 25))]
 
@@ -50,12 +50,37 @@ def both_sides():
     """Joins in a row: verdicts and spare after edits on both sides, on one, and after they met."""
     return [("S 0", "kept"), ("C 0 0", "equal"), ("U 0", "ok 0"), ("S 0", "kept"), ("F 0", "ok 1"), ("C 0 1", "equal"), ("S 1", "kept"),
             ("U 1", "ok 1"), ("C 0 1", "obsolete"), ("C 1 0", "newer"), ("S 0", "spare"), ("S 1", "kept"),
-            ("U 0", "ok 0"), ("C 0 1", "conflict"), ("C 1 0", "conflict"), ("S 0", "kept"), ("S 1", "kept"),
+            ("U 0", "ok 0"), ("C 0 1", "conflict 0 1"), ("C 1 0", "conflict 1 0"), ("S 0", "kept"), ("S 1", "kept"),
             ("F 1", "ok 2"), ("J 0 2", "ok 0"), ("C 1 0", "obsolete"), ("C 0 1", "newer"), ("S 1", "spare"), ("S 0", "kept"),
-            ("S 2", "refused 3"), ("U 1", "ok 1"), ("C 0 1", "conflict"), ("J 1 0", "ok 1"), ("C 1 1", "equal"), ("C 0 1", "refused 3")]
+            ("S 2", "refused 3"), ("U 1", "ok 1"), ("C 0 1", "conflict 0 10"), ("J 1 0", "ok 1"), ("C 1 1", "equal"), ("C 0 1", "refused 3")]
 
 
-CASES = [digits, room, strings, halves, both_sides]
+# after 24 forks slot 0 has 24 zeros and slot n, made by fork n, has n - 1 zeros and a 1; the even ones go to slot 0, the odd ones to 24
+DEALT = [*[("F 0", "ok %d" % n) for n in range(1, 25)], *[("J 0 %d" % n, "ok 0") for n in range(2, 24, 2)],
+         *[("J 24 %d" % n, "ok 24") for n in range(23, 0, -2)], ("U 0", "ok 0"), ("U 24", "ok 24")]
+ZEROS, ONE = "0" * 24, "0" * 23 + "1"
+
+
+def longest():
+    """Names of 12 and 13 strings that have nothing in common: the first string of both has 24 digits, and it is the longest line there is."""
+    return [*DEALT, ("C 0 24", "conflict %s %s" % (ZEROS, ONE)), ("C 24 0", "conflict %s %s" % (ONE, ZEROS)), ("C 0 0", "equal"),
+            ("J 0 24", "ok 0"), *to_the_end(range(1, 25))]
+
+
+def lacking():
+    """Slots 0 and 8 have the edits of 8 strings in common, xyz0; which string a conflict names is decided by the rest."""
+    return [*[pair for pair in GROWN if int(pair[1][3:]) < 16],             # slot s has the four bits of s, the lowest first
+            *[("J 0 %d" % s, "ok 0") for s in range(1, 8)], ("U 0", "ok 0"),
+            ("F 0", "ok 1"), ("J 8 1", "ok 8"), ("C 0 8", "equal"),         # all strings of both are xyz0
+            ("U 9", "ok 9"), ("U 12", "ok 12"), ("J 0 9", "ok 0"), ("C 0 8", "newer"), ("J 8 12", "ok 8"),
+            ("C 0 8", "conflict 1001 0011"), ("C 8 0", "conflict 0011 1001"),  # the sixth of 9 strings and the third of 9
+            ("U 13", "ok 13"), ("J 8 13", "ok 8"), ("C 0 8", "conflict 1001 0011"),  # 1011 is lacking too, but comes later
+            ("U 10", "ok 10"), ("J 0 10", "ok 0"), ("C 0 8", "conflict 0101 0011"),  # 0101 is lacking too, and comes first
+            ("F 0", "ok 1"), ("C 1 8", "conflict 0101 0011"), ("C 8 1", "conflict 0011 0101"), ("J 8 1", "refused 7"),
+            ("U 8", "ok 8"), ("C 0 8", "conflict 0101 00001"), ("C 8 0", "conflict 00001 0101")]  # xyz01 now, which covers xyz0
+
+
+CASES = [digits, room, strings, halves, both_sides, longest, lacking]
 
 # lines on a table with a copy in slot 0 alone; none of these changes that
 LINES = [(line, b"refused 11") for line in [
@@ -113,4 +138,11 @@ def lines_of_length():
     return data, b"refused 11\nequal\nrefused 11\n" * len(lengths)
 
 
-WHOLE = [long_lines, large_input, at_the_seams, lines_of_length]
+def long_answers():
+    """Far more bytes out than in: the longest answers there are, alone and among short ones."""
+    turn = [("C 0 24", "conflict %s %s" % (ZEROS, ONE)), ("C 0 0", "equal"), ("C 24 0", "conflict %s %s" % (ONE, ZEROS)), ("S 0", "kept")]
+    lines = [*DEALT, *turn[:1] * 6000, *turn * 4000, *turn[2:3] * 3000]
+    return tuple(b"".join(b"%s\n" % pair[n].encode() for pair in lines) for n in (0, 1))
+
+
+WHOLE = [long_lines, large_input, at_the_seams, lines_of_length, long_answers]

@@ -4,8 +4,10 @@
 usage: model.py < TRACE
 
 Each copy is the set of the edits it has seen and a set of id strings. Verdicts are
-inclusion of event sets; the id strings decide refusals 6 and 7 alone. There are no
-update names here and no packed form, and no code is shared with the library.
+inclusion of event sets; the id strings decide refusals 6 and 7. Which strings a conflict
+names is asked of a third set: all strings that begin a string of the update name, so that
+a string is covered by a copy exactly when it is in that copy's set. There are no names in
+order here, no words and no packed form, and no code is shared with the library.
 """
 import re
 import sys
@@ -20,8 +22,22 @@ class Refused(Exception):
 
 
 class Copy:
-    def __init__(self, events, ids):
-        self.events, self.ids = frozenset(events), frozenset(ids)
+    def __init__(self, events, ids, begun=("",)):
+        self.events, self.ids, self.begun = frozenset(events), frozenset(ids), frozenset(begun)
+
+    def update_name(self):
+        """The strings that no longer one of the set goes on from."""
+        return {s for s in self.begun if s + "0" not in self.begun and s + "1" not in self.begun}
+
+
+def beginnings(strings):
+    """All that a string of these begins with, itself and the empty string too."""
+    return {s[:n] for s in strings for n in range(len(s) + 1)}
+
+
+def uncovered(c, d):
+    """The strings of c's update name that no string of d's extends."""
+    return c.update_name() - d.begun
 
 
 def merged(ids):
@@ -52,7 +68,7 @@ class Table:
 
     def update(self, a):
         c = self.at(a)
-        self.copies[a] = Copy(c.events | {self.edits}, c.ids)
+        self.copies[a] = Copy(c.events | {self.edits}, c.ids, beginnings(c.ids))
         self.edits += 1
         return "ok %d" % a
 
@@ -63,8 +79,8 @@ class Table:
             raise Refused(5)
         if any(len(s) == DIGITS for s in c.ids):
             raise Refused(6)
-        self.copies[a] = Copy(c.events, {s + "0" for s in c.ids})
-        self.copies[free[0]] = Copy(c.events, {s + "1" for s in c.ids})
+        self.copies[a] = Copy(c.events, {s + "0" for s in c.ids}, c.begun)
+        self.copies[free[0]] = Copy(c.events, {s + "1" for s in c.ids}, c.begun)
         return "ok %d" % free[0]
 
     def join(self, a, b):
@@ -74,17 +90,21 @@ class Table:
         ids = merged(c.ids | d.ids)
         if len(ids) > STRINGS:
             raise Refused(7)
-        self.copies[a] = Copy(c.events | d.events, ids)
+        self.copies[a] = Copy(c.events | d.events, ids, (c.begun | d.begun) & beginnings(ids))
         self.copies[b] = None
         return "ok %d" % a
 
     def compare(self, a, b):
-        x, y = self.at(a).events, self.at(b).events
-        if x == y:
+        c, d = self.at(a), self.at(b)
+        if c.events == d.events:
             return "equal"
-        if x < y:
+        if c.events < d.events:
             return "obsolete"
-        return "newer" if x > y else "conflict"
+        return "newer" if c.events > d.events else self.conflict(c, d)
+
+    def conflict(self, c, d):
+        """The first of each, as digits: 0 comes before 1 in text too."""
+        return "conflict %s %s" % (min(uncovered(c, d)), min(uncovered(d, c)))
 
     def spare(self, a):
         x = self.at(a).events
@@ -109,8 +129,8 @@ def lines_of(data):
     return parts[:-1] if parts[-1] == b"" else parts
 
 
-def run(data):
-    table = Table()
+def run(data, table=None):
+    table = table or Table()
     return "".join(table.line(text) + "\n" for text in lines_of(data)).encode()
 
 

@@ -1,6 +1,7 @@
 /* What the header does not export, through crates/probes, against the second implementation: every answer, every record and every
- * byte, with guards around what is lent. Stamps by value, packed reading and writing by value, entries of bundles, which of two to
- * keep and where it stands; and the table of copies at every size from 0 to 35, with absent, lawful, unlawful, old and doubled records.
+ * byte, with guards around what is lent. Stamps by value, packed reading and writing by value, the uncovered strings of two stamps,
+ * entries of bundles, which of two to keep and where it stands; and the table of copies at every size from 0 to 35, with absent,
+ * lawful, unlawful, old and doubled records.
  *
  * usage: probes ROUNDS SEED     (prints what was met, or the first difference; status 1 on a difference) */
 #include "probes.h"
@@ -70,6 +71,28 @@ static void noise(void *to, size_t len) {
     for (size_t k = 0; k < len; k++) ((uint8_t *)to)[k] = (uint8_t)next();
 }
 
+/* ---- how two stand: the uncovered strings, their places and their words */
+
+enum { FIRST, SECOND, SIDES };
+static tallied places_met[SIDES] = {{"place of the first's uncovered string", "", {0, 1, 2, 3, 4, 5, 6, 7, 8, 9, 10, 11, 12, 13, 14, 15}, 16, {0}},
+                                    {"place of the second's", "", {0, 1, 2, 3, 4, 5, 6, 7, 8, 9, 10, 11, 12, 13, 14, 15}, 16, {0}}};
+static tallied digits_met = {"conflicts of 24 digits, on neither side, on one, on both", "", {0, 1, 2}, 3, {0}};
+
+/* What is lent, with a guard on both sides. */
+typedef struct {
+    uint64_t front, out[4], back;
+} places;
+
+static void same_places(const char *call, tallied *t, uint64_t got, const places *p, uint64_t want, const places *q) {
+    for (int k = 0; k < 4; k++)
+        if (p->out[k] != q->out[k]) printf("number %d: library %" PRIx64 ", second %" PRIx64 "\n", k, p->out[k], q->out[k]);
+    same(call, t, got, want, memcmp(p, q, sizeof *p) == 0);
+    if (got != 3) return;
+    tally(&places_met[FIRST], p->out[0]);
+    tally(&places_met[SECOND], p->out[2]);
+    tally(&digits_met, (p->out[1] % 64 == 24) + (p->out[3] % 64 == 24));
+}
+
 /* ---- stamps by value */
 
 static tallied is_lawful_met = {"is_lawful", "", {0, 1}, 2, {0}};
@@ -80,7 +103,14 @@ static tallied met_met = {"meet by value", "", {0, 1002, 1008, 1009}, 4, {0}};
 static tallied compared_met = {"compare by value", "", {0, 1, 2, 3, 1002, 1008, 1009}, 7, {0}};
 
 static void by_value(void) {
-    record r = any_record(), s = any_record(), was_r = r, was_s = s, p, q, v, w;
+    record r = any_record(), s = any_record(), p, q, v, w;
+    if (below(4) == 0) {
+        bytes x, y;
+        two_apart(&x, &y);
+        r = record_from(&x);
+        s = record_from(&y);
+    }
+    record was_r = r, was_s = s;
     same("is_lawful", &is_lawful_met, probe_is_lawful(&r), (uint64_t)second_is_lawful(&r), 1);
     noise(&p, sizeof p);
     uint64_t got = probe_updated(&r, &p), want = second_updated(&r, &q);
@@ -93,7 +123,11 @@ static void by_value(void) {
     got = probe_joined(&r, &s, &p), want = second_joined(&r, &s, &q);
     same("join by value", &joined_met, got, want, alike(&p, &q));
     same("meet by value", &met_met, probe_met(&r, &s), second_met(&r, &s), 1);
-    same("compare by value", &compared_met, probe_compared(&r, &s), second_compared(&r, &s), 1);
+    places a, b;
+    noise(&a, sizeof a);
+    b = a;
+    got = probe_compared(&r, &s, a.out), want = second_compared(&r, &s, b.out);
+    same_places("compare by value", &compared_met, got, &a, want, &b);
     if (!alike(&r, &was_r) || !alike(&s, &was_s)) differ("a record that was lent to be read", 0, 0);
 }
 
@@ -117,6 +151,18 @@ static void packed(void) {
     memcpy(to, out, sizeof to);
     got = probe_write(&r, out + GUARD / 2, len), want = second_write(&r, to + GUARD / 2, len);
     same("write", &write_met, got, want, memcmp(out, to, sizeof out) == 0);
+}
+
+static tallied stood_met = {"compare packed", "", {0, 1, 2, 3, 1001, 1002, 1008, 1009}, 8, {0}};
+
+static void standing(void) {
+    bytes x, y;
+    places p, q;
+    any_two(&x, &y);
+    noise(&p, sizeof p);
+    q = p;
+    uint64_t got = probe_stood(x.b, x.len, y.b, y.len, p.out), want = second_stood(x.b, x.len, y.b, y.len, q.out);
+    same_places("compare packed", &stood_met, got, &p, want, &q);
 }
 
 /* ---- bundles */
@@ -173,8 +219,7 @@ static tallied keep_met = {"keep", "", {0, 1, 2}, 3, {0}};
 
 static void keeping(void) {
     bytes x, y;
-    any_stamp(&x);
-    any_stamp(&y);
+    any_two(&x, &y);
     kept want = second_keep(x.b, x.len, y.b, y.len);
     writes = 0;
     uint64_t got = probe_keep(x.b, x.len, y.b, y.len);
@@ -261,12 +306,14 @@ int main(int argc, char **argv) {
         for (int j = 0; j < 3; j++) evolve();
         by_value();
         packed();
+        standing();
         keeping();
         if (k % 8 == 0) bundles();
         if (k % 8 == 4) tables();
     }
-    const tallied *all[] = {&is_lawful_met, &updated_met, &forked_met, &joined_met, &met_met, &compared_met, &read_met, &write_met,
-                            &entry_met, &keep_met, &fresh_met, &update_met, &fork_met, &join_met, &compare_met, &spare_met, &outsized_met};
+    const tallied *all[] = {&is_lawful_met, &updated_met, &forked_met, &joined_met, &met_met, &compared_met, &stood_met, &places_met[FIRST],
+                            &places_met[SECOND], &digits_met, &read_met, &write_met, &entry_met, &keep_met, &fresh_met, &update_met,
+                            &fork_met, &join_met, &compare_met, &spare_met, &outsized_met};
     int missing = 0, unused = 0;
     for (size_t k = 0; k < sizeof all / sizeof all[0]; k++) missing += tally_show(all[k]);
     for (size_t n = 0; n < SIZES; n++) unused += sizes[n] == 0;

@@ -14,11 +14,12 @@ uint64_t probe_spare(const record *t, size_t n, size_t a);
 uint64_t probe_read(const uint8_t *b, size_t len, record *out);
 uint64_t probe_write(const record *r, uint8_t *out, size_t out_len);
 uint64_t probe_entry(const uint8_t *b, size_t len, size_t k, record *out);
+uint64_t probe_stood(const uint8_t *first, size_t first_len, const uint8_t *second, size_t second_len, uint64_t out[4]);
 uint64_t probe_keep(const uint8_t *first, size_t first_len, const uint8_t *second, size_t second_len);
 bool probe_is_lawful(const record *r);
 uint64_t probe_updated(const record *r, record *out);
 uint64_t probe_forked(const record *r, record *zero, record *one);
 uint64_t probe_joined(const record *r, const record *s, record *out);
 uint64_t probe_met(const record *r, const record *s);
-uint64_t probe_compared(const record *r, const record *s);
+uint64_t probe_compared(const record *r, const record *s, uint64_t out[4]);
 #endif

@@ -339,6 +339,31 @@ static int told_two(const record *r, const record *s, stamp *a, stamp *b) {
     return meets(a, b);
 }
 
+/* Of the strings of m that no string of n extends the least; its place is how many strings of m are less. */
+static void lacked(const name *m, const name *n, uint64_t out[2]) {
+    const char *least = NULL;
+    for (int k = 0; k < m->n; k++)
+        if (!covers(n, m->s[k]) && (!least || strcmp(m->s[k], least) < 0)) least = m->s[k];
+    out[0] = out[1] = 0;
+    if (!least) return;
+    for (int k = 0; k < m->n; k++) out[0] += strcmp(m->s[k], least) < 0;
+    out[1] = word_of(least);
+}
+
+/* The verdict and the uncovered strings of both, or the refusal and none. */
+static uint64_t stands(int refusal, const stamp *a, const stamp *b, uint64_t out[4]) {
+    memset(out, 0, 4 * sizeof *out);
+    if (refusal) return REFUSED + (uint64_t)refusal;
+    lacked(&a->u, &b->u, out);
+    lacked(&b->u, &a->u, out + 2);
+    return (uint64_t)verdict(a, b);
+}
+
+uint64_t second_stood(const uint8_t *first, size_t first_len, const uint8_t *second, size_t second_len, uint64_t out[4]) {
+    stamp a, b;
+    return stands(read_two(first, first_len, second, second_len, &a, &b), &a, &b, out);
+}
+
 uint64_t second_read(const uint8_t *b, size_t len, record *out) {
     stamp x;
     return give_record(read_stamp(b, len, &x), &x, out);
@@ -399,10 +424,9 @@ uint64_t second_met(const record *r, const record *s) {
     return bad ? REFUSED + (uint64_t)bad : 0;
 }
 
-uint64_t second_compared(const record *r, const record *s) {
+uint64_t second_compared(const record *r, const record *s, uint64_t out[4]) {
     stamp a, b;
-    int bad = told_two(r, s, &a, &b);
-    return bad ? REFUSED + (uint64_t)bad : (uint64_t)verdict(&a, &b);
+    return stands(told_two(r, s, &a, &b), &a, &b, out);
 }
 
 /* ---- the table of copies */

@@ -19,11 +19,13 @@ typedef struct {
     size_t len;
 } kept;
 
-/* the calls of the header, and which of two to keep */
+/* the calls of the header, compare with the uncovered strings too, and which of two to keep. Out is the place and the word of the
+ * first's uncovered string, then of the second's; 0 and 0 where the verdict has none, and on refusal. */
 uint64_t second_update(const uint8_t *stamp, size_t stamp_len, uint8_t *out, size_t out_len);
 uint64_t second_fork(const uint8_t *stamp, size_t stamp_len, uint8_t *zero, size_t zero_len, uint8_t *one, size_t one_len);
 uint64_t second_join(const uint8_t *first, size_t first_len, const uint8_t *second, size_t second_len, uint8_t *out, size_t out_len);
 uint64_t second_compare(const uint8_t *first, size_t first_len, const uint8_t *second, size_t second_len);
+uint64_t second_stood(const uint8_t *first, size_t first_len, const uint8_t *second, size_t second_len, uint64_t out[4]);
 uint64_t second_room(const uint8_t *stamp, size_t stamp_len);
 kept second_keep(const uint8_t *first, size_t first_len, const uint8_t *second, size_t second_len);
 
@@ -37,7 +39,7 @@ uint64_t second_updated(const record *r, record *out);
 uint64_t second_forked(const record *r, record *zero, record *one);
 uint64_t second_joined(const record *r, const record *s, record *out);
 uint64_t second_met(const record *r, const record *s);
-uint64_t second_compared(const record *r, const record *s);
+uint64_t second_compared(const record *r, const record *s, uint64_t out[4]);
 
 /* the table of copies */
 uint64_t second_table_fresh(record *t, size_t n);

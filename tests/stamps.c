@@ -149,6 +149,55 @@ void any_stamp(bytes *x) {
     if (below(5) == 0) damage(x);
 }
 
+/* ---- two stamps that meet: the ids are apart, most strings of the updates are in both */
+
+typedef struct {
+    unsigned n, v[16], len[16];
+} field;
+
+static void put_string(field *f, unsigned v, unsigned len) { f->v[f->n] = v, f->len[f->n++] = len; }
+
+static void pack(bytes *x, const field *u, const field *i) {
+    const field e = {.n = 1}, *names[2] = {u->n ? u : &e, i};
+    size_t at = 0;
+    memset(x, 0, sizeof *x);
+    for (int k = 0; k < 2; k++) {
+        put_bits(x, &at, names[k]->n - 1, 4);
+        for (unsigned j = 0; j < names[k]->n; j++) {
+            put_bits(x, &at, names[k]->len[j], 5);
+            put_bits(x, &at, names[k]->v[j], names[k]->len[j]);
+        }
+    }
+    x->len = (at + 7) / 8;
+}
+
+/* String after string: both have it, one was edited there since (1, 2) or has it alone (3, 4), or one lacks it though its id would know
+ * it (5, 6: refused 9). The first string is in both ids. */
+void two_apart(bytes *x, bytes *y) {
+    field u = {0}, i = {0}, v = {0}, j = {0};
+    unsigned n = (unsigned)(below(2) ? 16 : 1 + below(16)), alike = (unsigned)(1 + below(40)), strange = below(4) == 0;
+    unsigned deep = (unsigned)(6 + below(18)), step = (unsigned)(2 + below((1u << (deep - 4)) - 2)), s = (unsigned)below(step);
+    if (below(3) == 0) deep = 23;
+    for (unsigned k = 0; k < n; k++, s += step) {
+        unsigned kind = below(alike) ? 0 : (unsigned)(1 + below(k == 0 ? 2 : strange ? 6 : 4));
+        int mine = kind != 4, yours = kind != 3;
+        if (mine && yours) put_string(&i, 2 * s, deep + 1), put_string(&j, 2 * s + 1, deep + 1);
+        else put_string(mine ? &i : &j, 2 * s + (unsigned)below(2), deep + 1);
+        if (kind == 1 || kind == 3) put_string(&u, i.v[i.n - 1], deep + 1);
+        else if (mine && kind != 5) put_string(&u, s, deep);
+        if (kind == 2 || kind == 4) put_string(&v, j.v[j.n - 1], deep + 1);
+        else if (yours && kind != 6) put_string(&v, s, deep);
+    }
+    pack(x, &u, &i);
+    pack(y, &v, &j);
+}
+
+void any_two(bytes *x, bytes *y) {
+    if (below(4) == 0) return two_apart(x, y);
+    any_stamp(x);
+    any_stamp(y);
+}
+
 /* [e|i] with count id strings: first, first + step, ..., of deep digits. */
 bytes with_ids(unsigned count, unsigned deep, unsigned first, unsigned step) {
     bytes x;

@@ -23,5 +23,7 @@ void evolve(void);
 void some_fields(bytes *x);
 void large(bytes *x);
 void any_stamp(bytes *x);
+void two_apart(bytes *x, bytes *y);
+void any_two(bytes *x, bytes *y);
 bytes with_ids(unsigned count, unsigned deep, unsigned first, unsigned step);
 #endif

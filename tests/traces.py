@@ -11,6 +11,7 @@ import fcntl
 import io
 import os
 import random
+import re
 import signal
 import struct
 import subprocess
@@ -29,6 +30,8 @@ HERE = os.path.dirname(os.path.abspath(__file__))
 WAIT = 120      # seconds for one run
 EACH = 24       # random traces of each kind; in the self-test 6
 REACHED = {"ok", "equal", "obsolete", "newer", "conflict", "spare", "kept", *("refused %d" % n for n in (3, 4, 5, 6, 7, 11))}
+CONFLICT = re.compile("conflict [01]{1,24} [01]{1,24}")
+MANY = 8        # strings of an update name
 
 
 class Wrong(Exception):
@@ -112,20 +115,62 @@ def same(got, want, data, what):
                 % (what, k + 1, len(lines), at(printed), at(wanted), led, len(got), len(want)))
 
 
+class Conflict:
+    """Two copies in conflict: their update names in rising order, which strings of each the other lacks, and the place of the first of these."""
+    def __init__(self, c, d):
+        self.copies = c, d
+        self.names = [sorted(x.update_name()) for x in (c, d)]
+        self.lacked = [sorted(model.uncovered(c, d)), sorted(model.uncovered(d, c))]
+        self.places = [name.index(some[0]) for name, some in zip(self.names, self.lacked)]
+
+
+# what has to be seen in some conflict between update names of many strings; the conflict of the line before, if it told one, is at hand
+SEEN = {"in all": lambda now, before: True,
+        "the other way round in the next line": lambda now, before: before and before.copies == now.copies[::-1],
+        "24 digits told of both": lambda now, before: all(len(some[0]) == 24 for some in now.lacked),
+        "the first string of both covered": lambda now, before: min(now.places) > 0,
+        "the last string of both covered": lambda now, before: all(name[-1] != some[-1] for name, some in zip(now.names, now.lacked)),
+        "more than one string of both lacking": lambda now, before: all(len(some) > 1 for some in now.lacked),
+        "at two places": lambda now, before: now.places[0] != now.places[1]}
+
+
+class Watched(model.Table):
+    """The model; what is seen in its conflicts is counted."""
+    def __init__(self, seen):
+        super().__init__()
+        self.seen, self.now = seen, None
+
+    def line(self, text):
+        self.before, self.now = self.now, None
+        return super().line(text)
+
+    def conflict(self, c, d):
+        self.now = Conflict(c, d)
+        if all(len(name) >= MANY for name in self.now.names):
+            self.seen.update(what for what, is_so in SEEN.items() if is_so(self.now, self.before))
+        return super().conflict(c, d)
+
+
 class Count:
-    """What was run, and which answers were met."""
+    """What was run, which answers were met, and what was seen in the conflicts of random traces."""
     def __init__(self):
-        self.traces, self.answers, self.slots = 0, collections.Counter(), set()
+        self.traces, self.answers, self.slots, self.seen = 0, collections.Counter(), set(), collections.Counter()
 
     def add(self, printed):
         self.traces += 1
         for text in printed.decode().splitlines():
             word, _, number = text.partition(" ")
-            self.answers["ok" if word == "ok" else text] += 1
+            self.answers[word if word == "ok" or CONFLICT.fullmatch(text) else text] += 1
             if word == "ok":
                 self.slots.add(int(number))
 
+    def wanted(self, data):
+        """What the model prints."""
+        return model.run(data, Watched(self.seen))
+
     def check(self):
+        if set(SEEN) - set(self.seen):
+            raise Wrong("in no conflict between names of %d strings: %s" % (MANY, ", ".join(sorted(set(SEEN) - set(self.seen)))))
         if REACHED - set(self.answers):
             raise Wrong("never printed: %s" % ", ".join(sorted(REACHED - set(self.answers))))
         if set(self.answers) - REACHED:
@@ -208,10 +253,13 @@ class Walk:
         return self.do(b"%s %s" % (letter.encode(), b" ".join(b"%d" % a for a in slots)))
 
     def data(self):
-        """The trace, at times with its last line unfinished; its ids are the whole, no part twice."""
-        ids = sorted(s for c in self.table.copies if c is not None for s in c.ids)
+        """The trace, at times with its last line unfinished. Its ids are the whole, no part twice, and both ways to tell what was seen agree."""
+        copies = [c for c in self.table.copies if c is not None]
+        ids = sorted(s for c in copies for s in c.ids)
         if sum(2 ** (24 - len(s)) for s in ids) != 2 ** 24 or any(b.startswith(a) for a, b in zip(ids, ids[1:])):
             raise Wrong("the model's ids are not the whole: %s" % ids)
+        if any((c.events <= d.events) != (c.begun <= d.begun) for c in copies for d in copies):
+            raise Wrong("the model's edits and update names tell two stories")
         return b"\n".join(self.lines) + (b"\n" if self.rng.random() < 0.8 else b"")
 
 
@@ -270,6 +318,47 @@ def wide(rng, size):
             if walk.table.copies[most] is None:
                 most = other
             walk.step((3, 0.5, 0.2, 4, 1))
+    return walk.data()
+
+
+def gather(walk):
+    """The two copies that have the longest siblings are joined, until there is one copy or a join is refused."""
+    told = "ok"
+    while told.startswith("ok") and len(walk.present()) > 1:
+        owner = {s: a for a in walk.present() for s in walk.table.copies[a].ids}
+        s = max(sorted(owner), key=len)
+        told = walk.do(b"J %d %d" % (owner[s[:-1] + "0"], owner[s[:-1] + "1"]))
+
+
+def clash(rng, size):
+    """Conflicts between update names of many strings, most of them in both names, up to 24 digits; each is asked both ways."""
+    walk = Walk(rng)
+    while len(walk.lines) < size:
+        gather(walk)
+        last, ones = walk.present()[0], rng.choice([0, 0.5, 1])
+        for _ in range(rng.choice([20, 24, 24])):
+            told = walk.do(b"F %d" % last)
+            if told.startswith("ok") and rng.random() < ones:
+                last = int(told.split()[1])
+        cards = sorted(walk.present(), key=lambda a: max(map(len, walk.table.copies[a].ids)))
+        if len(cards) < 20:
+            continue
+        longest, cards = cards[-2:], rng.sample(cards[:-2], len(cards) - 2)
+        deal = lambda n: [cards.pop() for _ in range(n)]
+        pair = x, y = deal(2)
+        for a in deal(rng.randrange(4, 8)):                 # what both will have seen: x collects it, is edited and tells y
+            walk.do(b"J %d %d" % (x, a))
+        walk.do(b"U %d" % x)
+        walk.do(b"J %d %s" % (y, walk.do(b"F %d" % x).split()[1].encode()))
+        for hand, a in zip(pair, longest):                  # and what only one has seen
+            for other in deal(rng.choice([0, 0, 1, 2, 3])) + [a]:
+                walk.do(b"U %d" % other)
+                walk.do(b"J %d %d" % (hand, other))
+        for _ in range(rng.randrange(1, 5)):
+            for a, b in (pair, pair[::-1]):
+                walk.do(b"C %d %d" % (a, b))
+            walk.step((4, 0.3, 0.3, 4, 1))
+            pair = rng.choice([(x, y), (x, walk.slot(0)), (walk.slot(0), y)])
     return walk.data()
 
 
@@ -333,7 +422,7 @@ def noise(rng, size):
     return bytes(rng.choices(b"UFJCS 01239\n\r\0\xff", (3, 4, 1, 3, 2, 14, 9, 3, 2, 1, 1, 12, 0.2, 0.2, 0.2), k=6 * size))
 
 
-KINDS = {kind.__name__: kind for kind in (long, deep, full, wide, spare, quiet, far, malformed, mixed, noise)}
+KINDS = {kind.__name__: kind for kind in (long, deep, full, wide, clash, spare, quiet, far, malformed, mixed, noise)}
 
 
 def random_cases(command, count, seed, each):
@@ -342,7 +431,7 @@ def random_cases(command, count, seed, each):
             rng = random.Random("%s %s %d" % (seed, name, n))
             data = kind(rng, rng.choice([20, 100, 400, 1000]))
             what = "seed %s, %s %d" % (seed, name, n)
-            compare(command, data, model.run(data), what, count, on_a_file if n % 2 else on_a_pipe)
+            compare(command, data, count.wanted(data), what, count, on_a_file if n % 2 else on_a_pipe)
     print("random traces with seed %s: %d of each kind: %s" % (seed, each, ", ".join(KINDS)), flush=True)
 
 
@@ -355,6 +444,7 @@ def check(command, seed):
     for part in PARTS.values():
         part(command, count, seed, EACH)
     count.check()
+    print("conflicts of random traces between names of %d strings or more: " % MANY + ", ".join("%d %s" % (count.seen[what], what) for what in SEEN))
     print("answers: " + ", ".join("%d %s" % (count.answers[a], a) for a in sorted(count.answers, key=lambda a: (len(a) > 9, a))))
     print("traces: %d run, %d lines, all as the model of event sets says" % (count.traces, sum(count.answers.values())))
 

@@ -94,8 +94,42 @@ class JoinForgets(model.Table):
     def join(self, a, b):
         first = self.at(a)
         told = super().join(a, b)
-        self.copies[a] = model.Copy(first.events, self.copies[a].ids)
+        ids = self.copies[a].ids
+        self.copies[a] = model.Copy(first.events, ids, first.begun & model.beginnings(ids))
         return told
+
+
+class LastTold(model.Table):
+    def conflict(self, c, d):
+        return "conflict %s %s" % (max(model.uncovered(c, d)), max(model.uncovered(d, c)))
+
+
+class FirstOfAllTold(model.Table):
+    def conflict(self, c, d):
+        return "conflict %s %s" % (min(c.update_name()), min(d.update_name()))
+
+
+class PlaceInTheOther(model.Table):
+    def conflict(self, c, d):
+        x, y = sorted(c.update_name()), sorted(d.update_name())
+        at = lambda name, other, lacked: other[min(name.index(min(lacked)), len(other) - 1)]
+        return "conflict %s %s" % (at(x, y, model.uncovered(c, d)), at(y, x, model.uncovered(d, c)))
+
+
+class StringsSwapped(model.Table):
+    def conflict(self, c, d):
+        return super().conflict(d, c)
+
+
+class LongestTold(model.Table):
+    def conflict(self, c, d):
+        longest = lambda some: max(sorted(some), key=len)
+        return "conflict %s %s" % (longest(model.uncovered(c, d)), longest(model.uncovered(d, c)))
+
+
+class IdsTold(model.Table):
+    def conflict(self, c, d):
+        return "conflict %s %s" % (min(c.ids), min(d.ids))
 
 
 def reduced_once(ids):
@@ -109,7 +143,9 @@ def reduced_once(ids):
 TABLES = {"verdicts swapped": VerdictsSwapped, "edits counted": Counted, "equal is spare": SpareIfEqual, "spare looks below only": SpareToLowerOnly,
           "highest slot": HighestSlot, "23 digits refused": OneDigitLess, "6 before 5": DigitsBeforeRoom, "4 before 3": OneSlotBeforeAbsent,
           "strings counted before reduction": CountedBeforeReduction, "refused join drops": RefusedJoinDrops,
-          "join keeps the second": JoinKeepsSecond, "join forgets the second": JoinForgets}
+          "join keeps the second": JoinKeepsSecond, "join forgets the second": JoinForgets,
+          "last string told": LastTold, "first string of all told": FirstOfAllTold, "place in the other name": PlaceInTheOther,
+          "strings swapped": StringsSwapped, "longest string told": LongestTold, "ids told": IdsTold}
 # what it makes of the input, where that alone is wrong
 INPUTS = {"unfinished line lost": lambda data: data[:data.rfind(b"\n") + 1],
           "carriage return dropped": lambda data: data.replace(b"\r", b""),
@@ -125,7 +161,7 @@ OUTPUTS = {"last answer lost": lambda text: text[:text.rfind(b"\n", 0, -1) + 1],
            "last newline lost": lambda text: text[:-1],
            "one line too many": lambda text: text + b"ok 0\n"}
 READS = {"a read ends a line": 1 << 16, "a read of 4096 ends a line": 4096}
-OTHERS = ["seventeen strings", "25 digits", "reduced once", "status 1", "silent"]
+OTHERS = ["seventeen strings", "25 digits", "reduced once", "status 1", "silent", "answers to 4096 bytes cut at 16384"]
 NAMES = [*TABLES, *INPUTS, *OUTPUTS, *READS, *OTHERS]
 
 
@@ -136,13 +172,31 @@ def pieces(size):
             os.write(1, (table.line(text) + "\n").encode())
 
 
+def cut_answers():
+    """What a piece of 4096 bytes prints is cut where a buffer of 16384 bytes ends."""
+    table, held = model.Table(), b""
+    for data in iter(lambda: sys.stdin.buffer.read(4096), b""):
+        *whole, held = (held + data).split(b"\n")
+        sys.stdout.buffer.write("".join(table.line(text) + "\n" for text in whole).encode()[:16384])
+    if held:
+        sys.stdout.buffer.write((table.line(held) + "\n").encode())
+
+
+def or_none(uncovered):
+    """A program with a slip may tell of a conflict where nothing is uncovered."""
+    return lambda c, d: uncovered(c, d) or {""}
+
+
 def main(slip):
     if slip in READS:
         return pieces(READS[slip])
+    if slip == "answers to 4096 bytes cut at 16384":
+        return cut_answers()
     model.Table = TABLES.get(slip, model.Table)
     model.STRINGS = 17 if slip == "seventeen strings" else model.STRINGS
     model.DIGITS = 25 if slip == "25 digits" else model.DIGITS
     model.merged = reduced_once if slip == "reduced once" else model.merged
+    model.uncovered = model.uncovered if slip == "none" else or_none(model.uncovered)
     data = INPUTS.get(slip, bytes)(sys.stdin.buffer.read())
     text = b"" if slip == "silent" else OUTPUTS.get(slip, bytes)(model.run(data))
     sys.stdout.buffer.write(text)
