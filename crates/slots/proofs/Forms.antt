@@ -3,12 +3,12 @@ use Rattle.laws.proofs.Library.{_≡_, refl, sym, ap, _∙_, Bool, true, false,
 use Rattle.rules.specs.Limits.{narrow}
 use Rattle.rules.specs.Names.{Name}
 use Rattle.rules.specs.Stamps.{Stamp, update, fork, join, compare}
-use Rattle.rules.specs.Stored.{stored, held, unlawful, blank}
+use Rattle.rules.specs.Stored.{stored, held, unlawful, blank, absent}
 use Rattle.rules.specs.Refusals.{andThen, first, long, many}
 use Rattle.rules.specs.Values.{given, branches, meeting, told, updated, forked, joined, compared, standsAs, standing}
 use Rattle.rules.specs.declared.Record.{Record}
 use Rattle.rules.specs.declared.Refusal.{Refusal}
-use Rattle.rules.specs.declared.Refusal.the-variants.{Unlawful, Full, Long, Many, Unfit}
+use Rattle.rules.specs.declared.Refusal.the-variants.{Unlawful, NoSlot, Full, Long, Many, Unfit}
 use Rattle.rules.specs.declared.Answer.{Answer}
 use Rattle.rules.specs.declared.Answer.the-variants.{Done, Refused}
 use Rattle.rules.specs.declared.Verdict.{Verdict}
@@ -18,7 +18,7 @@ use Rattle.rules.specs.declared.Given.{Given}
 use Rattle.rules.specs.declared.Forked.{Forked}
 use Rattle.stamps.proofs.Laws.{first-then}
 use Rattle.slots.specs.Gates.{codeOf}
-use Rattle.slots.specs.Rules.{refusedAt, atTable, standingHere, answerCode, pairTests, meetTests, oneOf, twoOf, fullCode, joinRule}
+use Rattle.slots.specs.Rules.{refusedAt, atTable, standingOf, standingHere, answerCode, slotTests, pairTests, meetTests, oneOf, twoOf, fullCode, joinRule}
 
 -- ---- from a rule by value to the table
 
@@ -99,14 +99,15 @@ compare-form s u =
 
 -- a record beside itself
 pub itself-form : (s u : Record)
-    → cond (unlawful narrow s) (Standing.Refused Unfit) Standing.Equal ≡ standsAs (told (first ((unlawful narrow s, Unfit) ∷ [])) Equal) (held s .update)
-    (held u .update)
-unfolding first
-itself-form s u = by (unlawful narrow s)
+    → standingOf (answerCode (first (slotTests s [])) 0) ≡ standsAs (told (first (slotTests s [])) Equal) (held s .update) (held u .update)
+unfolding first standingOf
+itself-form s u = by (absent narrow s) (unlawful narrow s)
   where
-    by : (b : Bool) → cond b (Standing.Refused Unfit) Standing.Equal ≡ standsAs (told (cond b (Refused Unfit) Done) Equal) (held s .update) (held u .update)
-    by true = refl
-    by false = refl
+    by : (x y : Bool) → standingOf (answerCode (cond x (Refused NoSlot) (cond y (Refused Unfit) Done)) 0)
+        ≡ standsAs (told (cond x (Refused NoSlot) (cond y (Refused Unfit) Done)) Equal) (held s .update) (held u .update)
+    by true y = refl
+    by false true = refl
+    by false false = refl
 
 -- ---- what is asked before a join, and then of the records that meet
 

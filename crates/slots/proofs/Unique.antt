@@ -8,7 +8,7 @@ use Rattle.slots.proofs.update_rule
 use Rattle.slots.proofs.fork_rule
 use Rattle.slots.proofs.join_rule
 use Rattle.slots.proofs.compare_rule
-use Rattle.slots.proofs.not_compared
+use Rattle.slots.proofs.standing_of
 use Rattle.slots.proofs.is_absent
 use Rattle.slots.proofs.slot_code
 
@@ -30,8 +30,8 @@ join-rule-one-answer M 𝓤 H A mem run = (refl, λ κs a g h r s v w. both-say 
 pub compare-rule-one-answer : OneAnswer compare_rule.ended (λ M 𝓤. compare_rule.clauses 𝓤) (λ M 𝓤. compare_rule.spec 𝓤)
 compare-rule-one-answer M 𝓤 H A mem run = (refl, λ κs a g h r s v w. both-say 𝓤 (λ e f. (agree e f, refl)))
 
-pub not-compared-one-answer : OneAnswer not_compared.ended (λ M 𝓤. not_compared.clauses 𝓤) (λ M 𝓤. not_compared.spec 𝓤)
-not-compared-one-answer M 𝓤 H A mem run = (refl, λ κs a g h r s v w. both-say 𝓤 (λ e f. (agree e f, refl)))
+pub standing-of-one-answer : OneAnswer standing_of.ended (λ M 𝓤. standing_of.clauses 𝓤) (λ M 𝓤. standing_of.spec 𝓤)
+standing-of-one-answer M 𝓤 H A mem run = (refl, λ κs a g h r s v w. both-say 𝓤 (λ e f. (agree e f, refl)))
 
 pub is-absent-one-answer : OneAnswer is_absent.ended (λ M 𝓤. is_absent.clauses 𝓤) (λ M 𝓤. is_absent.spec 𝓤)
 is-absent-one-answer M 𝓤 H A mem run = (refl, λ κs a g h r s v w. both-say 𝓤 (λ e f. (agree e f, refl)))

@@ -80,8 +80,7 @@ joinRule a b s u =
 
 -- a slot is equal to itself, where it has a lawful record
 abbrev pub compareTests : ℕ → ℕ → Record → Record → List (Bool × Refusal)
-compareTests a b s u =
-    (absent narrow s, NoSlot) ∷ (absent narrow u, NoSlot) ∷ cond (eqb a b) ((unlawful narrow s, Unfit) ∷ []) (meetTests s u [])
+compareTests a b s u = cond (eqb a b) (slotTests s []) ((absent narrow s, NoSlot) ∷ (absent narrow u, NoSlot) ∷ meetTests s u [])
 
 abbrev pub verdictOf : ℕ → ℕ → Record → Record → Verdict
 verdictOf a b s u = cond (eqb a b) Verdict.Equal (compare (held s) (held u))
@@ -89,9 +88,10 @@ verdictOf a b s u = cond (eqb a b) Verdict.Equal (compare (held s) (held u))
 unfoldable pub compareRule : ℕ → ℕ → Record → Record → Standing
 compareRule a b s u = standsAs (told (first (compareTests a b s u)) (verdictOf a b s u)) (held s .update) (held u .update)
 
--- what the gate refuses: 12, or 3
-unfoldable pub notCompared : ℕ → Standing
-notCompared code = Standing.Refused (cond (eqb code (codeOf Unfit)) Unfit NoSlot)
+-- what a number decides: 12, 3, or equal
+unfoldable pub standingOf : ℕ → Standing
+standingOf code =
+    cond (eqb code (codeOf Unfit)) (Standing.Refused Unfit) (cond (eqb code (codeOf NoSlot)) (Standing.Refused NoSlot) Standing.Equal)
 
 -- a comparison by value, at the table
 abbrev pub standingHere : Standing → Standing

@@ -2,15 +2,12 @@
 // total: it takes records of any content, and one that refuses gives back what it got. Answers are numbers, as slotNumber of
 // the rules says; a comparison is the standing itself.
 ghost use mathlib.Core.Path.{_≡_};
-ghost use mathlib.Core.Bool.{cond};
 ghost use mathlib.Core.List.{[]};
 ghost use Rattle.rules.specs.Limits.{narrow};
 ghost use Rattle.rules.specs.Refusals.{first};
-ghost use Rattle.rules.specs.Stored.{absent, unlawful};
-ghost use Rattle.rules.specs.declared.Refusal.the-variants.{Unfit};
-ghost use Rattle.rules.specs.declared.Standing.the-variants.{Equal, Refused};
+ghost use Rattle.rules.specs.Stored.{absent};
 ghost use Rattle.slots.specs.Gates.{gateCode, freshSlot};
-ghost use Rattle.slots.specs.Rules.{answerCode, fullCode, slotTests, pairTests, updateRule, forkRule, joinRule, compareRule, notCompared, refusedAt, standingHere};
+ghost use Rattle.slots.specs.Rules.{answerCode, fullCode, slotTests, pairTests, updateRule, forkRule, joinRule, compareRule, standingOf, refusedAt, standingHere};
 use answers::refusal_code;
 use names::is_zero_from;
 use rules::Answer;
@@ -172,26 +169,27 @@ pub fn join_rule(a: usize, b: usize, s: Record, u: Record) -> Two
 pub fn compare_rule(a: usize, b: usize, s: Record, u: Record) -> Standing
     ensures { λ n. ⌜ n ≡ compareRule a b s u ⌝ }
 {
+    if a == b {
+        return standing_of(slot_code(s));
+    }
     if is_absent(s) {
         return Standing::Refused(Refusal::NoSlot);
     }
     if is_absent(u) {
         return Standing::Refused(Refusal::NoSlot);
     }
-    if a == b {
-        return equal_to_itself(s);
-    }
     standing_at(stamps::compare(s, u))
 }
 
-// A comparison that the gate refused: 12 for the size, else 3.
-pub fn not_compared(code: u64) -> Standing
-    ensures { λ s. ⌜ s ≡ notCompared code ⌝ }
+// A comparison that a number decides: 12, 3, or where nothing is refused equal.
+pub fn standing_of(code: u64) -> Standing
+    ensures { λ s. ⌜ s ≡ standingOf code ⌝ }
 {
-    if code == UNFIT {
-        return Standing::Refused(Refusal::Unfit);
+    match code {
+        UNFIT => Standing::Refused(Refusal::Unfit),
+        NO_SLOT => Standing::Refused(Refusal::NoSlot),
+        _ => Standing::Equal,
     }
-    Standing::Refused(Refusal::NoSlot)
 }
 
 // Whether there is no copy in the record: it is all zeros.
@@ -247,16 +245,6 @@ fn pair_code(a: usize, b: usize, s: Record, u: Record) -> u64
         return ONE_SLOT;
     }
     0
-}
-
-// A lawful record beside itself.
-fn equal_to_itself(s: Record) -> Standing
-    ensures { λ r. ⌜ r ≡ cond (unlawful narrow s) (Refused Unfit) Equal ⌝ }
-{
-    if stamps::is_lawful(s) {
-        return Standing::Equal;
-    }
-    Standing::Refused(Refusal::Unfit)
 }
 
 // A comparison by value, as the table says it.

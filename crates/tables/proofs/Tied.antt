@@ -16,7 +16,7 @@ use Rattle.rules.specs.declared.Refusal.the-variants.{Long, Many}
 use Rattle.rules.specs.declared.Verdict.the-variants.{Equal}
 use Rattle.rules.specs.declared.Standing.{Standing}
 use Rattle.slots.specs.Gates.{gateCode}
-use Rattle.slots.specs.Rules.{answerCode, oneOf, twoOf, slotTests, pairTests, meetTests, updateRule, forkRule, joinRule, compareRule, notCompared}
+use Rattle.slots.specs.Rules.{answerCode, oneOf, twoOf, slotTests, pairTests, meetTests, updateRule, forkRule, joinRule, compareRule, standingOf}
 use Rattle.scans.specs.declared.Scan.{Scan}
 use Rattle.scans.specs.Scans.{foundOr, onwardTo, absentOrNext, weighOf, weighStart}
 use Rattle.tables.specs.Forks.{forkCode, forkList}
@@ -104,7 +104,7 @@ unfolding compare
 compare-self s = rw (below-refl (s .update)) refl
 
 abbrev pub compareOf : Table → ℕ → ℕ → Standing
-compareOf t a b = cond (eqb (gateCode (length t) a b) 0) (compareRule a b (at t a) (at t b)) (notCompared (gateCode (length t) a b))
+compareOf t a b = cond (eqb (gateCode (length t) a b) 0) (compareRule a b (at t a) (at t b)) (standingOf (gateCode (length t) a b))
 
 -- a slot beside itself
 compare-same : (t : Table) (a : ℕ) → gateCode (length t) a a ≡ 0 → badCount (length t) ≡ false → leb (length t) a ≡ false
@@ -118,7 +118,7 @@ compare-same t a c p q = by (absent narrow (at t a)) (unlawful narrow (at t a)) 
     by false false hx hy = simp (c, p, q, hx, hy, eq-eqb a a refl, compare-self (held (at t a)))
 
 pub compare-tied : (t : Table) (a b : ℕ) → compareOf t a b ≡ standingAt narrow t a b
-unfolding standingAt compareAt compareRule notCompared first badSize noSlot
+unfolding standingAt compareAt compareRule standingOf first badSize noSlot
 compare-tied t a b = by (gates (length t) a b)
   where
     one : (z : Bool) → absent narrow (at t a) ≡ z → badCount (length t) ≡ false → leb (length t) a ≡ false → leb (length t) b ≡ true

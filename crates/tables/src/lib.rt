@@ -75,7 +75,7 @@ pub fn compare(t: &[Record], a: usize, b: usize) -> Standing
     if g == 0 {
         return slots::compare_rule(a, b, t[a], t[b]);
     }
-    slots::not_compared(g)
+    slots::standing_of(g)
 }
 
 // Whether slot a's copy is obsolete relative to some other: 0 kept, 1 spare.

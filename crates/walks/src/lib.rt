@@ -5,6 +5,8 @@ ghost use Prim.Native.Nat.{_≤_};
 ghost use lib.ListN.{length, drop};
 ghost use Rattle.walks.specs.Walks.{atLeast, belowWalk, uncoveredWalk, overlapWalk, unknownWalk, hasTwins, isLong, meetWalk, compareWalk};
 ghost use Rattle.walks.specs.Walks.{judgedBy};
+ghost use Rattle.walks.specs.Inner.{LookedAt};
+ghost use Rattle.rules.specs.declared.Answer.the-variants.{Refused};
 use rules::Answer;
 use rules::Refusal;
 use rules::Standing;
@@ -13,33 +15,31 @@ use strings::DIGITS;
 use strings::are_siblings;
 use strings::begins;
 
+// What two stamps are refused for, or the places of their first uncovered strings.
+struct Looked {
+    answer: Answer,
+    first: usize,
+    second: usize,
+}
+
 // What two lawful stamps that meet are refused for: 8, then 9.
 pub fn meet<'a>(u: &'a [u64], i: &'a [u64], v: &'a [u64], j: &'a [u64]) -> Answer
     ensures { λ r. ⌜ r ≡ meetWalk (now (u .entry)) (now (i .entry)) (now (v .entry)) (now (j .entry)) ⌝ }
 {
-    let s = compare(u, i, v, j);
-    match s {
-        Standing::Refused(r) => Answer::Refused(r),
-        _ => Answer::Done,
-    }
+    let l = look(u, i, v, j);
+    l.answer
 }
 
 // How the first stands to the second, or what the two are refused for.
 pub fn compare<'a>(u: &'a [u64], i: &'a [u64], v: &'a [u64], j: &'a [u64]) -> Standing
     ensures { λ r. ⌜ r ≡ compareWalk (now (u .entry)) (now (i .entry)) (now (v .entry)) (now (j .entry)) ⌝ }
 {
-    if is_overlapping(i, j) {
-        return Standing::Refused(Refusal::Overlap);
+    let l = look(u, i, v, j);
+    let a = l.answer;
+    match a {
+        Answer::Refused(r) => Standing::Refused(r),
+        Answer::Done => judged(u, l.first, v, l.second),
     }
-    let p = uncovered(u, v);
-    if is_unknown(&u[p..], j, v) {
-        return Standing::Refused(Refusal::Unseen);
-    }
-    let q = uncovered(v, u);
-    if is_unknown(&v[q..], i, u) {
-        return Standing::Refused(Refusal::Unseen);
-    }
-    judged(u, p, v, q)
 }
 
 // Whether each string of m is a prefix of some string of n.
@@ -124,6 +124,39 @@ pub fn is_long(n: &[u64]) -> bool
         i += 1;
     }
     false
+}
+
+// What the two are refused for; where they are not, the places of their first uncovered strings. 9 is asked from there on.
+fn look<'a>(u: &'a [u64], i: &'a [u64], v: &'a [u64], j: &'a [u64]) -> Looked
+    ensures { λ r. ⌜ LookedAt (now (u .entry)) (now (i .entry)) (now (v .entry)) (now (j .entry)) r ⌝ }
+{
+    if is_overlapping(i, j) {
+        return not_looked(Refusal::Overlap);
+    }
+    let p = uncovered(u, v);
+    if is_unknown(&u[p..], j, v) {
+        return not_looked(Refusal::Unseen);
+    }
+    let q = uncovered(v, u);
+    if is_unknown(&v[q..], i, u) {
+        return not_looked(Refusal::Unseen);
+    }
+    Looked {
+        answer: Answer::Done,
+        first: p,
+        second: q,
+    }
+}
+
+// A refusal, without places.
+fn not_looked(r: Refusal) -> Looked
+    ensures { λ l. ⌜ l .answer ≡ Refused r ⌝ }
+{
+    Looked {
+        answer: Answer::Refused(r),
+        first: 0,
+        second: 0,
+    }
 }
 
 // Whether some string of the update u is below the id i and not below the update v.

@@ -7,7 +7,7 @@ use Rattle.rules.specs.Tables.{outside}
 use Rattle.rules.specs.declared.Record.{Record}
 use Rattle.rules.specs.declared.Standing.{Standing}
 use Rattle.slots.specs.Gates.{gateCode}
-use Rattle.slots.specs.Rules.{compareRule, notCompared}
+use Rattle.slots.specs.Rules.{compareRule, standingOf}
 use Rattle.tables.proofs.Tied.{gate-ok, compareOf, compare-tied}
 use Rattle.tables.proofs.Asks.{holds-true, holds-false}
 use Rattle.tables.proofs.Slots.{item, standing, gateOf}
@@ -15,8 +15,8 @@ use Rattle.slots.proofs.gate.Symbol as gate-def
 use Rattle.slots.proofs.gate.Met as gate-thm
 use Rattle.slots.proofs.compare_rule.Symbol as rule-def
 use Rattle.slots.proofs.compare_rule.Met as rule-thm
-use Rattle.slots.proofs.not_compared.Symbol as not-def
-use Rattle.slots.proofs.not_compared.Met as not-thm
+use Rattle.slots.proofs.standing_of.Symbol as not-def
+use Rattle.slots.proofs.standing_of.Met as not-thm
 use Rattle.tables.proofs.compare as claim
 use Rattle.tables.proofs.compare.Key.{name as #compare}
 use Rattle.tables.proofs.compare.Statement as stated
@@ -26,7 +26,7 @@ abbrev ruleOf : Ins 0 tt (number ∷ number ∷ item ∷ item ∷ []) → Standi
 ruleOf a = compareRule (a .0) (a .1 .0) (a .1 .1 .0) (a .1 .1 .1 .0)
 
 abbrev notOf : Ins 0 tt (number ∷ []) → Standing
-notOf a = notCompared (a .0)
+notOf a = standingOf (a .0)
 
 abbrev said : Tells item (number ∷ number ∷ []) standing
 said κs ys a r = r ≡ compareOf ys (a .0) (a .1 .0)
@@ -53,7 +53,7 @@ module _ {M : Type 1} (𝓤 : URA M) (H : Heap 𝓤) (A : Atoms 𝓤) (W : Given
       (λ no. let e : eqb g 0 ≡ false = holds-false (eqb g 0) no in
       calls-by ! fm (number ∷ []) standing notOf known-not (g, tt) (ig, tt) (and-then ! (var ! refl) (no-more !)) refl refl (λ is.
       returns ! (look ! 0 refl) $ leaves ! refl refl $
-      let p : notCompared g ≡ compareOf ys i j = simp e in by ! (shuts (notCompared g) p is))))
+      let p : standingOf g ≡ compareOf ys i j = simp e in by ! (shuts (standingOf g) p is))))
 
 pub compare-spec : {M : Type 1} → stated.statement M
 unfolding code.routine tablesOf
@@ -63,6 +63,6 @@ compare-spec 𝓤 H 𝓜 𝓖 𝓡 =
     (walk 𝓤 H (𝓖 .A) (givenOf 𝓤 H 𝓜 𝓖) (tablesOf 𝓤 H 𝓜 (tables 𝓤 H 𝓜 𝓡 code.env))
     (cited 𝓤 H _ 𝓜 𝓡 code.env gate-def.name gate-def.routine code.calls-slots·gate (gate-thm.met 𝓤 H 𝓜 𝓖 𝓡))
     (cited 𝓤 H _ 𝓜 𝓡 code.env rule-def.name rule-def.routine code.calls-slots·compare-rule (rule-thm.met 𝓤 H 𝓜 𝓖 𝓡))
-    (cited 𝓤 H _ 𝓜 𝓡 code.env not-def.name not-def.routine code.calls-slots·not-compared (not-thm.met 𝓤 H 𝓜 𝓖 𝓡)))
+    (cited 𝓤 H _ 𝓜 𝓡 code.env not-def.name not-def.routine code.calls-slots·standing-of (not-thm.met 𝓤 H 𝓜 𝓖 𝓡)))
     (λ κs a. claim.clauses 𝓤 H (𝓖 .A) (𝓜 .mem) (𝓡 .run) κs a .ensures)
     (λ κs a r e h. factI 𝓤 _ (emp 𝓤) (h ∙ compare-tied (now (a .0)) (a .1 .0) (a .1 .1 .0))))

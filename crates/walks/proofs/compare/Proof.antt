@@ -1,103 +1,41 @@
--- `walks::compare` meets its contract: the tests in their order, and 9 is asked from the first uncovered string on. Assumes nothing.
-use Rattle.laws.proofs.Library.{needs, _≡_, sym, ap, ap₂, _∙_, Bool, true, false, List, ℕ, _-_, _≤_, arith, length, take, drop}
-use Rattle.rules.specs.Refusals.{first}
-use Rattle.rules.specs.declared.Refusal.the-variants.{Overlap, Unseen}
+-- `walks::compare` meets its contract: what the two are refused for, or how they stand by both places. Assumes nothing.
+use Rattle.laws.proofs.Library.{needs, _≡_, sym, ap, ap₂, _∙_, List, ℕ}
+use Rattle.rules.specs.declared.Refusal.{Refusal}
+use Rattle.rules.specs.declared.Answer.{Answer}
+use Rattle.rules.specs.declared.Answer.the-variants.{Done, Refused}
 use Rattle.rules.specs.declared.Standing.{Standing}
-use Rattle.walks.specs.Walks.{uncoveredWalk, overlapWalk, unknownWalk, unknownIn, meetWalk, judgedBy, compareWalk}
-use Rattle.walks.proofs.Steps.{from-all, uncovered-le}
+use Rattle.walks.specs.declared.Looked.{Looked}
+use Rattle.walks.specs.Walks.{uncoveredWalk, judgedBy, standAfter, compareWalk}
+use Rattle.walks.specs.Inner.{LookedAt}
 use Rattle.walks.proofs.compare.Statement.{statement}
 use Rattle.walks.proofs.compare.Tie as tie
 
--- a place lies in the name or at its end
-within : (m n : List ℕ) (p : ℕ) → p ≡ uncoveredWalk m n → p ≤ length m
-within m n p e = omega (arith, e, uncovered-le m n)
+module _ (u i v j : List ℕ) (l : Looked) (h : LookedAt u i v j l) where
+  -- how they stand after an answer
+  abbrev then : Answer → Standing
+  then a = standAfter a (judgedBy u (uncoveredWalk u v) v (uncoveredWalk v u))
 
--- 9, asked of the strings from the place on
-asked : (u i v : List ℕ) (p : ℕ) → p ≡ uncoveredWalk u v → unknownWalk (take (length u - p) (drop p u)) i v ≡ unknownIn u i v
-asked u i v p e = ap (λ (l : List ℕ). unknownWalk l i v) (from-all u p ∙ ap (λ (k : ℕ). drop k u) e)
+  refused-so : (r : Refusal) → l .answer ≡ Refused r → Standing.Refused r ≡ compareWalk u i v j
+  unfolding compareWalk
+  refused-so r e = ap then (sym e ∙ h .answer)
 
--- what each test said, and the answer where it is the first that holds
-module _ (u i v j : List ℕ) where
-  abbrev Overlaps : Bool → Type 0
-  Overlaps x = overlapWalk i j ≡ x
-
-  abbrev First : Bool → Type 0
-  First x = unknownIn u j v ≡ x
-
-  abbrev Second : Bool → Type 0
-  Second x = unknownIn v i u ≡ x
-
-  abbrev Is : Standing → Type 0
-  Is r = r ≡ compareWalk u i v j
-
-  overlapping : Overlaps true → Is (Standing.Refused Overlap)
-  unfolding compareWalk meetWalk first
-  overlapping p = simp p
-
-  first-unseen : Overlaps false → First true → Is (Standing.Refused Unseen)
-  unfolding compareWalk meetWalk first
-  first-unseen p q = simp (p, q)
-
-  second-unseen : Overlaps false → First false → Second true → Is (Standing.Refused Unseen)
-  unfolding compareWalk meetWalk first
-  second-unseen p q s = simp (p, q, s)
-
-  judged-so : Overlaps false → First false → Second false → (r : Standing) (m n : ℕ) → m ≡ uncoveredWalk u v → n ≡ uncoveredWalk v u
-      → r ≡ judgedBy u m v n → Is r
-  unfolding compareWalk meetWalk first
-  judged-so p q s r m n e f h = h ∙ ap₂ (λ (k l : ℕ). judgedBy u k v l) e f ∙ simp (p, q, s)
+  judged-so : (s : Standing) → l .answer ≡ Done → s ≡ judgedBy u (l .first) v (l .second) → s ≡ compareWalk u i v j
+  unfolding compareWalk
+  judged-so s e f = f ∙ ap₂ (λ (p q : ℕ). judgedBy u p v q) (h .first e) (h .second e) ∙ ap then (sym e ∙ h .answer)
 
 returns : tie.Need-returns
 returns c =
-    let o = c .before in
-    let g = o .before .before .before .before .before .args in
-    overlapping (g .u .now) (g .i .now) (g .v .now) (g .j .now) (sym (o .is-overlapping .ensures) ∙ c .if1 .taken)
+    let k = c .before .before .before in
+    let g = k .before .before .before .before .before .args in
+    refused-so (g .u .now) (g .i .now) (g .v .now) (g .j .now) (k .look .result) (k .look .ensures) _ (c .before .a .given .1)
 
 returns-2 : tie.Need-returns-2
 returns-2 c =
-    let x = c .before in
-    let p = x .before .before in
-    let o = p .before .before in
-    let g = o .before .before .before .before .before .args in
-    let u = g .u .now in
-    let v = g .v .now in
-    first-unseen u (g .i .now) v (g .j .now) (sym (o .is-overlapping .ensures) ∙ p .before .if1 .left)
-    (sym (asked u (g .j .now) v (p .uncovered .result) (p .uncovered .ensures)) ∙ sym (x .is-unknown .ensures) ∙ c .if2 .taken)
-
-returns-3 : tie.Need-returns-3
-returns-3 c =
-    let y = c .before in
-    let q = y .before .before in
-    let x = q .before .before in
-    let p = x .before .before in
-    let o = p .before .before in
-    let g = o .before .before .before .before .before .args in
-    let u = g .u .now in
-    let v = g .v .now in
-    second-unseen u (g .i .now) v (g .j .now) (sym (o .is-overlapping .ensures) ∙ p .before .if1 .left)
-    (sym (asked u (g .j .now) v (p .uncovered .result) (p .uncovered .ensures)) ∙ sym (x .is-unknown .ensures) ∙ q .before .if2 .left)
-    (sym (asked v (g .i .now) u (q .uncovered2 .result) (q .uncovered2 .ensures)) ∙ sym (y .is-unknown2 .ensures) ∙ c .if3 .taken)
-
-returns-4 : tie.Need-returns-4
-returns-4 c =
-    let y = c .before .before in
-    let q = y .before .before in
-    let x = q .before .before in
-    let p = x .before .before in
-    let o = p .before .before in
-    let g = o .before .before .before .before .before .args in
-    let u = g .u .now in
-    let v = g .v .now in
-    judged-so u (g .i .now) v (g .j .now) (sym (o .is-overlapping .ensures) ∙ p .before .if1 .left)
-    (sym (asked u (g .j .now) v (p .uncovered .result) (p .uncovered .ensures)) ∙ sym (x .is-unknown .ensures) ∙ q .before .if2 .left)
-    (sym (asked v (g .i .now) u (q .uncovered2 .result) (q .uncovered2 .ensures)) ∙ sym (y .is-unknown2 .ensures) ∙ c .before .if3 .left)
-    (c .judged .result) (p .uncovered .result) (q .uncovered2 .result) (p .uncovered .ensures) (q .uncovered2 .ensures) (c .judged .ensures)
+    let d = c .before in
+    let k = d .before .before in
+    let g = k .before .before .before .before .before .args in
+    judged-so (g .u .now) (g .i .now) (g .v .now) (g .j .now) (k .look .result) (k .look .ensures) (c .judged .result) (d .enum-told .given .1)
+    (c .judged .ensures)
 
 pub compare-spec : {M : Type 1} → statement M
-compare-spec = tie.close (tie.spec (λ c κs. search needs) returns (λ c κs. search needs)
-    (λ c. search (needs, within _ _ _ (c .uncovered .ensures))) (λ c. search (needs, within _ _ _ (c .uncovered .ensures)))
-    (λ c. search (needs, within _ _ _ (c .uncovered .ensures))) (λ c. search (needs, within _ _ _ (c .uncovered .ensures)))
-    (λ c κs. search needs) returns-2 (λ c κs. search needs)
-    (λ c. search (needs, within _ _ _ (c .uncovered2 .ensures))) (λ c. search (needs, within _ _ _ (c .uncovered2 .ensures)))
-    (λ c. search (needs, within _ _ _ (c .uncovered2 .ensures))) (λ c. search (needs, within _ _ _ (c .uncovered2 .ensures)))
-    (λ c κs. search needs) returns-3 (λ c κs. search needs) returns-4)
+compare-spec = tie.close (tie.spec (λ c κs. search needs) (λ c. search needs) (λ c. search needs) (λ c κs. search needs) returns returns-2)
