@@ -113,7 +113,7 @@ unfolding standingAt compareAt compareRule first badSize noSlot
 compare-same t a c p q = by (absent narrow (at t a)) (unlawful narrow (at t a)) refl refl
   where
     by : (x y : Bool) → absent narrow (at t a) ≡ x → unlawful narrow (at t a) ≡ y → compareOf t a a ≡ standingAt narrow t a a
-    by true y hx hy = simp (c, p, q, hx)
+    by true y hx hy = simp (c, p, q, hx, eq-eqb a a refl)
     by false true hx hy = simp (c, p, q, hx, hy, eq-eqb a a refl)
     by false false hx hy = simp (c, p, q, hx, hy, eq-eqb a a refl, compare-self (held (at t a)))
 
