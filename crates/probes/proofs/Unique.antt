@@ -18,6 +18,7 @@ use Rattle.probes.proofs.probe_forked
 use Rattle.probes.proofs.probe_joined
 use Rattle.probes.proofs.probe_met
 use Rattle.probes.proofs.probe_compared
+use Rattle.probes.proofs.probe_stood
 
 pub probe-fresh-one-answer : OneAnswer probe_fresh.ended (λ M 𝓤. probe_fresh.clauses 𝓤) (λ M 𝓤. probe_fresh.spec 𝓤)
 probe-fresh-one-answer M 𝓤 H A mem run = (refl, λ κs a g h r s v w. both-say 𝓤 (λ e f. (agree (e .0) (f .0), λ i. (agree (e .1) (f .1) i, tt))))
@@ -66,4 +67,7 @@ pub probe-met-one-answer : OneAnswer probe_met.ended (λ M 𝓤. probe_met.claus
 probe-met-one-answer M 𝓤 H A mem run = (refl, λ κs a g h r s v w. both-say 𝓤 (λ e f. (agree e f, refl)))
 
 pub probe-compared-one-answer : OneAnswer probe_compared.ended (λ M 𝓤. probe_compared.clauses 𝓤) (λ M 𝓤. probe_compared.spec 𝓤)
-probe-compared-one-answer M 𝓤 H A mem run = (refl, λ κs a g h r s v w. both-say 𝓤 (λ e f. (agree e f, refl)))
+probe-compared-one-answer M 𝓤 H A mem run = (refl, λ κs a g h r s v w. both-say 𝓤 (λ e f. (agree (e .0) (f .0), λ i. (tt, (tt, (agree (e .1) (f .1) i, tt))))))
+
+pub probe-stood-one-answer : OneAnswer probe_stood.ended (λ M 𝓤. probe_stood.clauses 𝓤) (λ M 𝓤. probe_stood.spec 𝓤)
+probe-stood-one-answer M 𝓤 H A mem run = (refl, λ κs a g h r s v w. both-say 𝓤 (λ e f. (agree (e .0) (f .0), λ i. (tt, (tt, (agree (e .1) (f .1) i, tt))))))

@@ -9,11 +9,11 @@ ghost use lib.ListN.{length};
 ghost use Rattle.rules.specs.Limits.{narrow};
 ghost use Rattle.rules.specs.Refusals.{first};
 ghost use Rattle.rules.specs.Stored.{isStored};
-ghost use Rattle.rules.specs.Values.{updated, forked, joined, compared, meeting};
-ghost use Rattle.rules.specs.Packed.{readStamp, writtenStamp, packedCompare, sideOf, writtenNumber, comparedNumber};
+ghost use Rattle.rules.specs.Values.{updated, forked, joined, compared, comparedOf, standing, meeting};
+ghost use Rattle.rules.specs.Packed.{readStamp, writtenStamp, packedCompare, packedStanding, sideOf, writtenNumber, comparedNumber};
 ghost use Rattle.rules.specs.Bundles.{readEntry};
 ghost use Rattle.rules.specs.Tables.{makeFresh, updateAt, forkAt, joinAt, compareAt, spareAt, slotNumber, sparedNumber};
-ghost use Rattle.probes.specs.Handed.{recordIn, recordWords, doneNumber, keptBytes};
+ghost use Rattle.probes.specs.Handed.{recordIn, recordWords, doneNumber, keptBytes, standingWords};
 use answers::compared_code;
 use answers::refusal_code;
 use answers::written_code;
@@ -21,6 +21,7 @@ use libc::STDOUT_FILENO;
 use rules::Answer;
 use rules::Given;
 use rules::Record;
+use rules::Standing;
 use words::put_record;
 use words::record_in;
 
@@ -61,7 +62,7 @@ pub extern "C" fn probe_join(t: &mut [Record], a: usize, b: usize) -> u64
 pub extern "C" fn probe_compare(t: &[Record], a: usize, b: usize) -> u64
     ensures { λ r. ⌜ r ≡ comparedNumber (compareAt narrow (now (t .entry)) a b) ⌝ }
 {
-    tables::compare(t, a, b)
+    compared_code(tables::compare(t, a, b))
 }
 
 // `tables::spare`.
@@ -159,10 +160,41 @@ pub extern "C" fn probe_met(r: &[u64; 34], s: &[u64; 34]) -> u64
 
 // `stamps::compare`.
 #[no_mangle]
-pub extern "C" fn probe_compared(r: &[u64; 34], s: &[u64; 34]) -> u64
-    ensures { λ n. ⌜ n ≡ comparedNumber (compared narrow (recordIn (now (r .entry))) (recordIn (now (s .entry)))) ⌝ }
+pub extern "C" fn probe_compared(r: &[u64; 34], s: &[u64; 34], out: &mut [u64; 4]) -> u64
+    ensures { λ n. ⌜ (n ≡ comparedNumber (compared narrow (recordIn (now (r .entry))) (recordIn (now (s .entry)))))
+        × (now (out .exit) ≡ standingWords (standing narrow (recordIn (now (r .entry))) (recordIn (now (s .entry))))) ⌝ }
 {
-    compared_code(stamps::compare(record_in(r), record_in(s)))
+    stood(stamps::compare(record_in(r), record_in(s)), out)
+}
+
+// `calls::compare`.
+#[no_mangle]
+pub extern "C" fn probe_stood(a: &[u8], b: &[u8], out: &mut [u64; 4]) -> u64
+    ensures { λ n. ⌜ (n ≡ comparedNumber (packedCompare narrow (now (a .entry)) (now (b .entry))))
+        × (now (out .exit) ≡ standingWords (packedStanding narrow (now (a .entry)) (now (b .entry)))) ⌝ }
+{
+    stood(calls::compare(a, b), out)
+}
+
+// Of the first and of the second the place and the word of its uncovered string into out, and the standing's number.
+fn stood(s: Standing, out: &mut [u64; 4]) -> u64
+    ensures { λ n. ⌜ (n ≡ comparedNumber (comparedOf s)) × (now (out .exit) ≡ standingWords s) ⌝ }
+{
+    let w = standing_words(s);
+    *out = w;
+    compared_code(s)
+}
+
+// The place and the word of the first's uncovered string, then of the second's; 0 and 0 where there is none.
+fn standing_words(s: Standing) -> [u64; 4]
+    ensures { λ w. ⌜ w ≡ standingWords s ⌝ }
+{
+    match s {
+        Standing::Obsolete(y) => [0, 0, y.place as u64, y.word],
+        Standing::Newer(x) => [x.place as u64, x.word, 0, 0],
+        Standing::Conflict(x, y) => [x.place as u64, x.word, y.place as u64, y.word],
+        _ => [0, 0, 0, 0],
+    }
 }
 
 // A stamp's words into out, and its answer's number.
