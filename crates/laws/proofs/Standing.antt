@@ -1,11 +1,10 @@
 -- A comparison with its places is the comparison that it was, and a conflict has two strings to show: both stamps are lawful, so both update
 -- names have strings, none longer than the limit, and neither name is below the other. Assumes nothing.
-use Rattle.laws.proofs.Library.{_≡_, refl, ap, _∙_, Bool, true, false, List, [], _∷_, ℕ, _≤_, arith, length, getD}
+use Rattle.laws.proofs.Library.{_≡_, refl, Bool, true, false, List, _∷_, ℕ, _≤_, arith, length}
 use Rattle.rules.specs.Limits.{Limits}
-use Rattle.rules.specs.Strings.{wordOf}
 use Rattle.rules.specs.Names.{Name, below, lacked}
 use Rattle.rules.specs.Stamps.{Stamp, verdict, compare}
-use Rattle.rules.specs.Stored.{stored, held, isStored, unlawful}
+use Rattle.rules.specs.Stored.{unlawful}
 use Rattle.rules.specs.Refusals.{first}
 use Rattle.rules.specs.Values.{told, compared, placed, comparedOf, standing}
 use Rattle.rules.specs.Packed.{packedCompare, packedStanding}
@@ -22,7 +21,7 @@ use Rattle.rules.specs.declared.Compared.the-variants.{Is, Refused as NotCompar
 use Rattle.rules.specs.declared.Uncovered.{Uncovered}
 use Rattle.laws.proofs.Below.{uncovered-lt, lacked-in, lacked-not-e}
 use Rattle.laws.proofs.Lawful.{Named, lawful-parts}
-use Rattle.laws.proofs.Stored.{word-at, lawful-stored, stored-lawful, stored-is}
+use Rattle.laws.proofs.Stored.{lawful-stored, stored-lawful}
 
 -- ---- without the places
 
@@ -44,13 +43,6 @@ compared-packed L s t = compared-placed (packedCompare L s t) _ _
 pub compared-at : (L : Limits) (t : Table) (a b : ℕ) → comparedOf (standingAt L t a b) ≡ compareAt L t a b
 unfolding standingAt
 compared-at L t a b = compared-placed (compareAt L t a b) _ _
-
--- ---- the word at a place
-
--- what a record holds at a place of its update name is the word of the string there; behind the last, e's
-pub standing-word : (L : Limits) (r : Record) → isStored L r ≡ true → (k : ℕ) → getD (r .update .words) k 0 ≡ wordOf (getD (held r .update) k [])
-unfolding stored
-standing-word L r h k = ap (λ (x : Record). getD (x .update .words) k 0) (stored-is L r h) ∙ word-at L (held r .update) k
 
 -- ---- what was accepted
 

@@ -1,9 +1,9 @@
 -- The stored shape: a record that has it tells its stamp, each lawful stamp has one, and none of them is all zeros.
 -- A word tells its string, and a record is the same as another when its numbers are. Assumes nothing.
-use Rattle.laws.proofs.Library.{_≡_, refl, sym, ap, ap₂, _∙_, true, false, not, List, [], _∷_, _++_, map, inl, inr, ℕ, zero, suc, _-_, _≤_, arith}
-use Rattle.laws.proofs.Library.{eqb, eqb-true, eq-eqb, length, getD, replicate, length-map, take-at}
+use Rattle.laws.proofs.Library.{_≡_, refl, ap, ap₂, _∙_, true, false, not, List, [], _∷_, map, inl, inr, ℕ, _-_, _≤_, arith}
+use Rattle.laws.proofs.Library.{eqb, eqb-true, eq-eqb, length, replicate, length-map, take-at}
 use Rattle.rules.specs.Limits.{Limits}
-use Rattle.rules.specs.Strings.{Str, valueFrom, aligned, wordOf, strOf}
+use Rattle.rules.specs.Strings.{Str, wordOf, strOf}
 use Rattle.rules.specs.Names.{Name, isName}
 use Rattle.rules.specs.Stamps.{Stamp, lawful}
 use Rattle.rules.specs.Stored.{wordsOf, stored, strsIn, held, sameNumbers, sameWords, sameRecord, isStoredName, isStored, unlawful, blank, absent}
@@ -56,26 +56,6 @@ strs-words : (most : ℕ) → most ≤ 58 → (n : Name) → ((s : Str) → In s
 strs-words most room [] h = refl
 strs-words most room (s ∷ n) h =
     ap₂ (λ (t : Str) (l : Name). t ∷ l) (str-word s (omega (arith, h s (inl refl)))) (strs-words most room n (λ t i. h t (inr i)))
-
--- e's word is 0
-word-e : wordOf [] ≡ 0
-unfolding wordOf aligned valueFrom
-word-e = refl
-
--- the word at a place is that of the string there; behind the last both are e's
-pub word-at : (L : Limits) (n : Name) (k : ℕ) → getD (wordsOf L n .words) k 0 ≡ wordOf (getD n k [])
-unfolding wordsOf
-word-at L n k = along n (L .strings - length n) k
-  where
-    zeros : (j k : ℕ) → getD {A = ℕ} (replicate j 0) k 0 ≡ 0
-    zeros zero k = refl
-    zeros (suc j) zero = refl
-    zeros (suc j) (suc k) = zeros j k
-
-    along : (n : Name) (j k : ℕ) → getD (map wordOf n ++ replicate j 0) k 0 ≡ wordOf (getD n k [])
-    along [] j k = zeros j k ∙ sym word-e
-    along (s ∷ n) j zero = refl
-    along (s ∷ n) j (suc k) = along n j k
 
 module _ (L : Limits) (room : L .digits ≤ 58) where
   -- it tells the name

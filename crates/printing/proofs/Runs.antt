@@ -1,16 +1,13 @@
 -- What is printed for the commands of an input's lines is what the rules say the tool prints, however the input is cut into pieces.
 -- A table's slots are below 100 so that two digits show them, and no line changes a table's size; and the strings of copies in conflict are
 -- those of lawful records, so their words tell them. Assumes nothing.
-use Rattle.laws.proofs.Library.{_≡_, refl, sym, ap₂, _∙_, Bool, true, false, _||_, List, [], _∷_, _++_, append-assoc, inl, inr, ℕ, zero, suc, _≤_, _<_}
-use Rattle.laws.proofs.Library.{le-trans, arith, leb-false, eqb-false, leb, length, getD, set, replicate, length-set, length-replicate}
+use Rattle.laws.proofs.Library.{_≡_, refl, sym, ap₂, _∙_, Bool, true, false, _||_, List, [], _∷_, _++_, append-assoc, ℕ, suc, _≤_, _<_}
+use Rattle.laws.proofs.Library.{le-trans, arith, leb-false, eqb-false, leb, length, set, replicate, length-set, length-replicate}
 use Rattle.rules.specs.Limits.{Limits, records}
-use Rattle.rules.specs.Strings.{wordOf, strOf}
-use Rattle.rules.specs.Names.{Name, uncovered, lacked}
 use Rattle.rules.specs.Stamps.{start}
-use Rattle.rules.specs.Stored.{stored, unlawful, blank, absent}
+use Rattle.rules.specs.Stored.{stored, blank, absent}
 use Rattle.rules.specs.Refusals.{first}
-use Rattle.rules.specs.Values.{told}
-use Rattle.rules.specs.Tables.{Table, at, stampAt, stepped, badSize, noSlot, lowest, full, freshTable, updateAt, forkAt, joinAt, compareAt, standingAt, spareAt}
+use Rattle.rules.specs.Tables.{Table, stepped, badSize, noSlot, lowest, full, freshTable, updateAt, forkAt, joinAt, compareAt, standingAt, spareAt}
 use Rattle.rules.specs.Traces.{Text, Line, update, fork, join, compare, spare, unreadable, readLines, linesOf}
 use Rattle.rules.specs.Traces.{lackedAt, lineText, lineTable, tracedFrom, traced}
 use Rattle.rules.specs.declared.Refusal.{Refusal}
@@ -18,13 +15,9 @@ use Rattle.rules.specs.declared.Refusal.the-variants.{NoSlot, Unfit}
 use Rattle.rules.specs.declared.Answer.{Answer}
 use Rattle.rules.specs.declared.Answer.the-variants.{Done, Refused}
 use Rattle.rules.specs.declared.Slot.the-variants.{At}
-use Rattle.rules.specs.declared.Verdict.{Verdict}
-use Rattle.rules.specs.declared.Verdict.the-variants.{Conflict}
-use Rattle.rules.specs.declared.Compared.the-variants.{Is}
 use Rattle.laws.proofs.Tests.{no}
+use Rattle.laws.proofs.Standing.{first-done, conflict-short}
 use Rattle.laws.proofs.Words.{str-word}
-use Rattle.laws.proofs.Lawful.{Short, lawful-parts}
-use Rattle.laws.proofs.Stored.{lawful-stored, stored-lawful}
 use Rattle.lines.specs.declared.Command.{Command}
 use Rattle.lines.specs.Commands.{commandOf, commandsOf, begun, allGathered, whole}
 use Rattle.lines.specs.Runs.{answerTo, answered}
@@ -35,12 +28,6 @@ use Rattle.printing.specs.Answers.{answerText, answersText}
 use Rattle.printing.proofs.Texts.{unread-text, slot-text, stood-text, spared-text}
 
 -- ---- tables
-
--- where a call is accepted, no test of its list holds
-first-done : (b : Bool) (r : Refusal) (ts : List (Bool × Refusal)) → first ((b, r) ∷ ts) ≡ Done → (b ≡ false) × (first ts ≡ Done)
-unfolding first
-first-done true r ts e = absurd (let z : _≡_ {A = ℕ} 0 1 = cc in omega arith)
-first-done false r ts e = (refl, e)
 
 lowest-le : (L : Limits) (t : Table) → lowest L t ≤ length t
 unfolding lowest
@@ -99,37 +86,6 @@ module _ (L : Limits) (t : Table) where
 
 -- ---- a conflict's strings
 
--- a string of a name of short strings is short, and so is the one behind the last
-getD-short : (most : ℕ) (n : Name) (k : ℕ) → Short most n → length (getD n k []) ≤ most
-getD-short most [] k h = omega arith
-getD-short most (s ∷ n) zero h = h s (inl refl)
-getD-short most (s ∷ n) (suc k) h = getD-short most n k (λ t i. h t (inr i))
-
--- a verdict is told where a comparison is accepted
-told-done : (w : Answer) (v u : Verdict) → told w v ≡ Is u → w ≡ Done
-told-done Done v u e = refl
-told-done (Refused r) v u e = absurd (let z : _≡_ {A = ℕ} 0 1 = cc in omega arith)
-
-module _ (L : Limits) (t : Table) where
-  -- the update name of a lawful record has short strings
-  short-update : (a : ℕ) → unlawful L (at t a) ≡ false → Short (L .digits) (stampAt t a .update)
-  short-update a e = lawful-parts L (stampAt t a) (stored-lawful L (at t a) (lawful-stored L (at t a) e)) .updateNamed .short
-
-  -- the records of two slots that were compared are lawful
-  compared-lawful : (a b : ℕ) (v : Verdict) → compareAt L t a b ≡ Is v → (unlawful L (at t a) ≡ false) × (unlawful L (at t b) ≡ false)
-  unfolding compareAt
-  compared-lawful a b v e =
-      let d = first-done _ _ _ (first-done _ _ _ (first-done _ _ _ (told-done _ _ v e) .1) .1) .1 in
-      let f = first-done _ _ _ d in
-      (f .0, first-done _ _ _ (f .1) .0)
-
-  -- the word of what it has and another lacks tells that string
-  lacked-word : L .digits ≤ 58 → (a b : ℕ) → unlawful L (at t a) ≡ false → strOf (wordOf (lackedAt t a b)) ≡ lackedAt t a b
-  unfolding lacked
-  lacked-word room a b e =
-      let u = stampAt t a .update in
-      str-word (lackedAt t a b) (le-trans (getD-short (L .digits) u (uncovered u (stampAt t b .update)) (short-update a e)) room)
-
 -- ---- one line
 
 pub print-line : (L : Limits) (t : Table) (m : Line) → L .digits ≤ 58 → length t ≤ records → answerText (answerTo L t (commandOf m) m) ≡ lineText L t m
@@ -139,7 +95,10 @@ print-line L t (fork a) room h = slot-text (forkAt L t a .answer) (λ n e. omega
 print-line L t (join a b) room h = slot-text (joinAt L t a b .answer) (λ n e. omega (arith, join-slot L t a b n e))
 print-line L t (compare a b) room h =
     stood-text (compareAt L t a b) a b _ _ (lackedAt t a b) (lackedAt t b a)
-    (λ e. let f = compared-lawful L t a b Conflict e in (lacked-word L t room a b (f .0), lacked-word L t room b a (f .1)))
+    (λ e. let k = conflict-short L t a b e in (
+      str-word (lackedAt t a b) (le-trans (k .0) room),
+      str-word (lackedAt t b a) (le-trans (k .1) room),
+    ))
 print-line L t (spare a) room h = spared-text (spareAt L t a)
 print-line L t unreadable room h = unread-text
 

@@ -1,6 +1,6 @@
 -- What a pass over the table answers: the lowest absent slot, and whether slot a's copy may go. Assumes nothing.
 use Rattle.laws.proofs.Library.{_≡_, refl, sym, ap, _∙_, Bool, true, false, cond, _||_, [], _∷_, ℕ, zero, suc, _+_, _≤_, _<_, add-one, arith, lt-ltb}
-use Rattle.laws.proofs.Library.{le-ltb, ltb-true, ltb-false, eqb-true, eqb-false, eq-eqb, ne-eqb, eqb, ltb, length, getD, drop, drop-of-length-le}
+use Rattle.laws.proofs.Library.{le-ltb, ltb-true, ltb-false, ne-eqb, eqb, ltb, length, getD, drop, drop-of-length-le}
 use Rattle.laws.proofs.Library.{drop-cons}
 use Rattle.laws.proofs.Tests.{clash, eqb-suc}
 use Rattle.laws.proofs.Standing.{compared-standing}

@@ -16,7 +16,7 @@ use Rattle.rules.specs.declared.Refusal.the-variants.{Long, Many}
 use Rattle.rules.specs.declared.Verdict.the-variants.{Equal}
 use Rattle.rules.specs.declared.Standing.{Standing}
 use Rattle.slots.specs.Gates.{gateCode}
-use Rattle.slots.specs.Rules.{answerCode, oneOf, twoOf, slotTests, pairTests, meetTests, updateRule, forkRule, joinRule, compareRule, standingOf}
+use Rattle.slots.specs.Rules.{oneOf, twoOf, slotTests, pairTests, meetTests, updateRule, forkRule, joinRule, compareRule, standingOf}
 use Rattle.scans.specs.declared.Scan.{Scan}
 use Rattle.scans.specs.Scans.{foundOr, onwardTo, absentOrNext, weighOf, weighStart}
 use Rattle.tables.specs.Forks.{forkCode, forkList}

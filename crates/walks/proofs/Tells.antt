@@ -1,7 +1,7 @@
 -- What the walks tell of names: on words of strings in rising order they are the rules' own questions. The words passed are below s, so none
 -- of them extends it; of those left, the first extends s or comes after it, and then so do all. Assumes nothing.
 use Rattle.laws.proofs.Library.{_≡_, refl, sym, ap, ap₂, _∙_, subst, Bool, true, false, cond, not, _&&_, _||_, List, [], _∷_, dropLast, inl, inr, ⊎-elim}
-use Rattle.laws.proofs.Library.{Option, some, ℕ, zero, suc, _≤_, _<_, arith, lt-ltb, ltb-true, ltb-false, eqb, ltb, length, drop}
+use Rattle.laws.proofs.Library.{Option, some, ℕ, zero, suc, _≤_, _<_, arith, ltb-true, ltb-false, eqb, ltb, length, drop}
 use Rattle.rules.specs.Limits.{narrow}
 use Rattle.rules.specs.Strings.{Str, prefix, less, siblings, strOf, isWord}
 use Rattle.rules.specs.Names.{Name, any, all, rising, covered, below, uncovered}

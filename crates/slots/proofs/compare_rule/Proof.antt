@@ -1,5 +1,5 @@
 -- `slots::compare_rule` meets its contract: 3, and else what `stamps::compare` answers, as the table says it. Assumes nothing.
-use Rattle.laws.proofs.Library.{eq-eqb, ne-eqb, _≡_, sym, ap, _∙_, needs}
+use Rattle.laws.proofs.Library.{eq-eqb, ne-eqb, sym, ap, _∙_, needs}
 use Rattle.rules.specs.Refusals.{first}
 use Rattle.slots.specs.Rules.{compareRule, standingOf, standingHere}
 use Rattle.slots.proofs.Forms.{compare-form, itself-form}

@@ -4,10 +4,10 @@ use Rattle.frames.proofs.Walk.{_≡_, refl, sym, ap, subst, _∙_, List, [], _�
 use Rattle.frames.proofs.Walk.{_+_, _-_, _^_, ltb, lit<, arith, ltb-true, ltb-false, length, w64, Val, vint}
 use Rattle.frames.proofs.Walk.{URA, fullShare, Heap, Tables, Atoms, SProp, Fml, fmOf, givenOf, tables, tablesOf, Given, ‵, Sq, runs, atRet, rewrite, done, _$_}
 use Rattle.frames.proofs.Walk.{ !, by, row, Room, look, and-then, no-more, lit, of-opd, bin, returns, Triple, entered, cited, Blocks, envOf}
-use Rattle.frames.proofs.Walk.{deaths, frame-of, var, piece, sets, leaves, relends, number, Ins, Says, Closes, Walk, lends-as, Tells, Answers, asks, Changes, hands}
+use Rattle.frames.proofs.Walk.{deaths, frame-of, var, piece, sets, leaves, relends, number, Says, Closes, Walk, lends-as, Tells, Answers, asks, Changes, hands}
 use Rattle.frames.proofs.Walk.{var₂, Loop, Turn, whiles, tests, sets-last, turns-to, forgets, now, factI, emp}
 use Rattle.frames.proofs.Arrays.{unrolls, rolls, var₁, piece₁}
-use Rattle.frames.proofs.Rows.{Good, typed}
+use Rattle.frames.proofs.Rows.{typed}
 use Rattle.laws.proofs.Library.{_*_, _/_}
 use base.Fml.{fat}
 use prog.Wp.{spotOf}

@@ -2,7 +2,7 @@
 -- back into the command. Assumes nothing.
 use Rattle.frames.proofs.Walk.{_≡_, refl, ap, _∙_, true, false, [], _∷_, ℕ, eqb, lit<, URA, Heap, Tables, Atoms, fmOf, givenOf, tables, tablesOf, Given}
 use Rattle.frames.proofs.Walk.{_$_, !, by, look, and-then, no-more, returns-within, lit, bin, returns, Triple, entered, cited}
-use Rattle.frames.proofs.Walk.{ifs, var, sets, leaves, number, Ins, Gives, calls-by, Tells, Look, looks, var₂, Answers, asks}
+use Rattle.frames.proofs.Walk.{ifs, var, sets, leaves, number, Gives, calls-by, Tells, Look, looks, var₂, Answers, asks}
 use Rattle.rules.specs.Limits.{narrow}
 use Rattle.rules.specs.Tables.{sparedNumber, standingAt, spareAt}
 use Rattle.rules.specs.declared.Standing.{Standing}

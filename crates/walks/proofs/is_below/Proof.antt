@@ -1,5 +1,5 @@
 -- `walks::is_below` meets its contract: a name is below another where no string of it is uncovered. Assumes nothing.
-use Rattle.laws.proofs.Library.{needs, _≡_, sym, ap, _∙_, ℕ, eqb, length}
+use Rattle.laws.proofs.Library.{needs, sym, ap, _∙_, ℕ, eqb, length}
 use Rattle.walks.proofs.Steps.{below-uncovered}
 use Rattle.walks.proofs.is_below.Statement.{statement}
 use Rattle.walks.proofs.is_below.Tie as tie

@@ -1,5 +1,5 @@
 -- `walks::judged` meets its contract: a name whose first uncovered string is no string of it is below the other. Assumes nothing.
-use Rattle.laws.proofs.Library.{needs, _≡_, sym, ap₂, _∙_, Bool, true, false, List, ℕ, _≤_, _<_, le-leb, lt-leb, leb, length}
+use Rattle.laws.proofs.Library.{needs, _≡_, sym, ap₂, Bool, true, false, List, ℕ, le-leb, lt-leb, leb, length}
 use Rattle.rules.specs.Stamps.{verdict}
 use Rattle.rules.specs.Values.{placed}
 use Rattle.rules.specs.declared.Compared.the-variants.{Is}

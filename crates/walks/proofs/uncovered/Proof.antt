@@ -1,6 +1,6 @@
 -- `walks::uncovered` meets its contract. The inner loop passes the words of n below s; what is left to ask, of s and of the strings of m
 -- behind it, stays the same, so the first string that none extends stands as many places on as were passed. Assumes nothing.
-use Rattle.laws.proofs.Library.{needs, _≡_, refl, sym, ap, _∙_, true, false, ℕ, arith, _+_, _-_, zero-add, not-true, not-false, length, getD, drop}
+use Rattle.laws.proofs.Library.{needs, _≡_, sym, ap, _∙_, true, false, ℕ, arith, _+_, _-_, zero-add, not-true, not-false, length, getD, drop}
 use Rattle.walks.specs.Walks.{atLeast, uncoveredWalk}
 use Rattle.walks.proofs.Steps.{passed, uncoveredFrom, uncovered-turn, uncovered-end, uncovered-none, uncovered-at}
 use Rattle.walks.proofs.uncovered.Statement.{statement}
