@@ -17,8 +17,8 @@ within : (m n : List ℕ) (p : ℕ) → p ≡ uncoveredWalk m n → p ≤ length
 within m n p e = omega (arith, e, uncovered-le m n)
 
 -- 9, asked of the strings from the place on
-asked : (u i v : List ℕ) (p : ℕ) → p ≡ uncoveredWalk u v → unknownWalk (take (length u - p) (drop p u)) i v ≡ unknownIn u i v
-asked u i v p e = ap (λ (l : List ℕ). unknownWalk l i v) (from-all u p ∙ ap (λ (k : ℕ). drop k u) e)
+asked : (u i v : List ℕ) (p : ℕ) → p ≡ uncoveredWalk u v → (r x : Bool) → r ≡ unknownWalk (take (length u - p) (drop p u)) i v → r ≡ x → unknownIn u i v ≡ x
+asked u i v p e r x h t = sym (h ∙ ap (λ (l : List ℕ). unknownWalk l i v) (from-all u p ∙ ap (λ (k : ℕ). drop k u) e)) ∙ t
 
 -- what each test said, and the answer where it is the first that holds
 done-not : (r : Refusal) → Done ≡ Refused r → ⊥
@@ -76,7 +76,7 @@ returns-2 c =
     let v = g .v .now in
     refused u (g .i .now) v (g .j .now) (c .not-looked2 .result) Unseen (c .not-looked2 .ensures)
     (first-unseen u (g .i .now) v (g .j .now) (sym (o .is-overlapping .ensures) ∙ p .before .if1 .left)
-    (sym (asked u (g .j .now) v (p .uncovered .result) (p .uncovered .ensures)) ∙ sym (x .is-unknown .ensures) ∙ c .before .if2 .taken))
+    (asked u (g .j .now) v (p .uncovered .result) (p .uncovered .ensures) (x .is-unknown .result) true (x .is-unknown .ensures) (c .before .if2 .taken)))
 
 returns-3 : tie.Need-returns-3
 returns-3 c =
@@ -90,8 +90,8 @@ returns-3 c =
     let v = g .v .now in
     refused u (g .i .now) v (g .j .now) (c .not-looked3 .result) Unseen (c .not-looked3 .ensures)
     (second-unseen u (g .i .now) v (g .j .now) (sym (o .is-overlapping .ensures) ∙ p .before .if1 .left)
-    (sym (asked u (g .j .now) v (p .uncovered .result) (p .uncovered .ensures)) ∙ sym (x .is-unknown .ensures) ∙ q .before .if2 .left)
-    (sym (asked v (g .i .now) u (q .uncovered2 .result) (q .uncovered2 .ensures)) ∙ sym (y .is-unknown2 .ensures) ∙ c .before .if3 .taken))
+    (asked u (g .j .now) v (p .uncovered .result) (p .uncovered .ensures) (x .is-unknown .result) false (x .is-unknown .ensures) (q .before .if2 .left))
+    (asked v (g .i .now) u (q .uncovered2 .result) (q .uncovered2 .ensures) (y .is-unknown2 .result) true (y .is-unknown2 .ensures) (c .before .if3 .taken)))
 
 returns-4 : tie.Need-returns-4
 returns-4 c =
@@ -105,8 +105,8 @@ returns-4 c =
     let v = g .v .now in
     record {
       answer = not-refused u (g .i .now) v (g .j .now) (sym (o .is-overlapping .ensures) ∙ p .before .if1 .left)
-          (sym (asked u (g .j .now) v (p .uncovered .result) (p .uncovered .ensures)) ∙ sym (x .is-unknown .ensures) ∙ q .before .if2 .left)
-          (sym (asked v (g .i .now) u (q .uncovered2 .result) (q .uncovered2 .ensures)) ∙ sym (y .is-unknown2 .ensures) ∙ c .if3 .left);
+          (asked u (g .j .now) v (p .uncovered .result) (p .uncovered .ensures) (x .is-unknown .result) false (x .is-unknown .ensures) (q .before .if2 .left))
+          (asked v (g .i .now) u (q .uncovered2 .result) (q .uncovered2 .ensures) (y .is-unknown2 .result) false (y .is-unknown2 .ensures) (c .if3 .left));
       first = λ d. p .uncovered .ensures;
       second = λ d. q .uncovered2 .ensures;
     }
