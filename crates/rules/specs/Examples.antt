@@ -13,7 +13,8 @@ use Rattle.rules.specs.Refusals.{first, long, many, touches, overlap, un
 use Rattle.rules.specs.Values.{updated, forked, joined, compared, standing}
 use Rattle.rules.specs.Packed.{stringBits, stringsBits, nameBits, stampBits, bytesOf, packBits, packed}
 use Rattle.rules.specs.Tables.{badSize, noSlot, lowest, full, freshTable, updateAt, forkAt, joinAt, compareAt, spareFrom, spareAt}
-use Rattle.rules.specs.Traces.{splitAt, dropEmptyLast, linesOf, slotOf, readLine, okText, refusedText, digitsText, conflictText, verdictText, lineText, lineTable, tracedFrom, readLines, traced}
+use Rattle.rules.specs.Traces.{splitAt, dropEmptyLast, linesOf, slotOf, readLine, okText, refusedText, digitsText, conflictText, verdictText, lineText}
+use Rattle.rules.specs.Traces.{lineTable, tracedFrom, readLines, traced}
 use Rattle.rules.specs.declared.Verdict.{Verdict}
 use Rattle.rules.specs.declared.Refusal.the-variants.{Unlawful, Overlap, Unseen}
 use Rattle.rules.specs.declared.Answer.the-variants.{Done}

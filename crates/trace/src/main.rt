@@ -1,4 +1,5 @@
-// The trace tool: answers the lines of standard input on standard output. What is answered stands in `inputs`, as text in `printing`; here are the loops over the pieces and over their text.
+// The trace tool: answers the lines of standard input on standard output. What is answered stands in `inputs`, as text in `printing`; here
+// are the loops over the pieces and over their text.
 ghost use mathlib.Core.Path.{_≡_};
 ghost use mathlib.Core.Bool.{true, false};
 ghost use Prim.Native.Nat.{_*_, _≤_, _<_};

@@ -1,6 +1,7 @@
 -- What the walks tell of stored stamps, over any limits: the words that a lawful stamp's record counts are words of strings in rising order, so
 -- what the walks answer is what the rules do. Assumes nothing.
-use Rattle.laws.proofs.Library.{_≡_, refl, sym, ap, ap₂, _∙_, Bool, true, _||_, List, [], _∷_, map, inl, inr, ℕ, zero, suc, _-_, _≤_, arith, le-leb, leb, eq-eqb, length, getD, replicate}
+use Rattle.laws.proofs.Library.{_≡_, refl, sym, ap, ap₂, _∙_, Bool, true, _||_, List, [], _∷_, map, inl, inr, ℕ, zero, suc, _-_, _≤_, arith, le-leb, leb}
+use Rattle.laws.proofs.Library.{eq-eqb, length, getD, replicate}
 use Rattle.laws.proofs.Library.{length-map, take-at}
 use Rattle.rules.specs.Limits.{Limits}
 use Rattle.rules.specs.Strings.{Str, valueFrom, aligned, wordOf, strOf, isWord}

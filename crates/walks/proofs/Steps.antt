@@ -1,6 +1,8 @@
 -- One word more, as a loop wants it: what each walk says of lists from an index on, by the word that stands there. Assumes nothing.
-use Rattle.laws.proofs.Library.{_≡_, refl, sym, ap, ap₂, _∙_, Bool, false, true, cond, not, _&&_, _||_, List, [], _∷_, _⊎_, ⊎-elim, ℕ, zero, suc, _+_, _-_, _%_, _≤_}
-use Rattle.laws.proofs.Library.{_<_, arith, add-one, lt-ltb, le-ltb, ltb-true, ne-eqb, le-leb, eqb-true, eq-eqb, leb-true, eqb, leb, ltb, length, getD, take, take-all, drop, length-drop, drop-of-length-le, drop-cons}
+use Rattle.laws.proofs.Library.{_≡_, refl, sym, ap, ap₂, _∙_, Bool, false, true, cond, not, _&&_, _||_, List, [], _∷_, _⊎_, ⊎-elim, ℕ, zero, suc, _+_, _-_}
+use Rattle.laws.proofs.Library.{_%_, _≤_}
+use Rattle.laws.proofs.Library.{_<_, arith, add-one, lt-ltb, le-ltb, ltb-true, ne-eqb, le-leb, eqb-true, eq-eqb, leb-true, eqb, leb, ltb, length, getD, take}
+use Rattle.laws.proofs.Library.{take-all, drop, length-drop, drop-of-length-le, drop-cons}
 use Rattle.rules.specs.Strings.{siblings, strOf}
 use Rattle.rules.specs.Names.{any}
 use Rattle.strings.specs.Words.{begins}

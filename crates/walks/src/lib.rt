@@ -1,5 +1,5 @@
-// Names as lent words in rising order: below and the first uncovered string, what 8 and 9 ask, siblings, and the longest strings, each by one walk. And of the words of two stamps,
-// each of an update and an id: what they are refused for where they meet, and how they stand.
+// Names as lent words in rising order: below and the first uncovered string, what 8 asks, siblings, and the longest strings, each by one
+// walk. And of the words of two stamps, each of an update and an id: what they are refused for where they meet, and how they stand.
 ghost use mathlib.Core.Path.{_≡_};
 ghost use Prim.Native.Nat.{_≤_};
 ghost use lib.ListN.{length, drop};

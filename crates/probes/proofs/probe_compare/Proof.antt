@@ -1,7 +1,8 @@
 -- `probes::probe_compare` meets its contract: a walk of its MIR, which hands the run on once, as a `&`, and tells the number of what comes back.
 -- Assumes nothing.
 use Rattle.frames.proofs.Walk.{_≡_, refl, ap, _∙_, [], _∷_, URA, Heap, Tables, Atoms, fmOf, givenOf, tables, tablesOf, Given, _$_, !, by, look}
-use Rattle.frames.proofs.Walk.{and-then, no-more, returns, Triple, entered, cited, leaves, number, Ins, Gives, calls-by, Tells, Look, looks, var, var₂, Answers, asks}
+use Rattle.frames.proofs.Walk.{and-then, no-more, returns, Triple, entered, cited, leaves, number, Ins, Gives, calls-by, Tells, Look, looks, var, var₂}
+use Rattle.frames.proofs.Walk.{Answers, asks}
 use Rattle.rules.specs.Limits.{narrow}
 use Rattle.rules.specs.Packed.{comparedNumber}
 use Rattle.rules.specs.Tables.{compareAt, standingAt}

@@ -7,7 +7,8 @@ use Rattle.slots.proofs.standing_of.Statement.{statement}
 use Rattle.slots.proofs.standing_of.Tie as tie
 
 -- what the tests were, and what came of them
-tested : (code : ℕ) (x y : Bool) → eqb code 1012 ≡ x → eqb code 1003 ≡ y → cond x (Standing.Refused Unfit) (cond y (Standing.Refused NoSlot) Standing.Equal) ≡ standingOf code
+tested : (code : ℕ) (x y : Bool) → eqb code 1012 ≡ x → eqb code 1003 ≡ y
+    → cond x (Standing.Refused Unfit) (cond y (Standing.Refused NoSlot) Standing.Equal) ≡ standingOf code
 unfolding standingOf
 tested code x y e f = sym (ap₂ (λ (a b : Bool). cond a (Standing.Refused Unfit) (cond b (Standing.Refused NoSlot) Standing.Equal)) e f)
 

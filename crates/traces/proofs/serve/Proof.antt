@@ -1,6 +1,7 @@
 -- `traces::serve` meets its contract: a walk of its MIR, which hands the run on twice: as a `&` to `tell`, as a `&mut` to `change`. Assumes nothing.
 use Rattle.frames.proofs.Walk.{_≡_, refl, ap, _∙_, [], _∷_, ℕ, URA, fullShare, Heap, Tables, Atoms, fmOf, givenOf, tables, tablesOf, Given, _$_, !, by}
-use Rattle.frames.proofs.Walk.{look, and-then, no-more, returns, Triple, entered, cited, leaves, relends, number, Says, Walk, lends-as, Tells, var₂, Answers, asks}
+use Rattle.frames.proofs.Walk.{look, and-then, no-more, returns, Triple, entered, cited, leaves, relends, number, Says, Walk, lends-as, Tells, var₂, Answers}
+use Rattle.frames.proofs.Walk.{asks}
 use Rattle.frames.proofs.Walk.{Changes, hands, now, factI, emp}
 use Rattle.tables.proofs.Slots.{item}
 use Rattle.traces.specs.Inner.{toldBy, changedBy, changedTable}
