@@ -31,14 +31,14 @@ stood c (Standing.Newer x) = numbered c (verdictNumber Verdict.Newer)
 stood c (Standing.Conflict x y) = record { op = 99; a = x .word; b = y .word }
 stood c (Standing.Refused r) = numbered c (1000 + number r)
 
--- a command with the answer to the line that it says; an unreadable line is refusal 11
+-- a command with the answer to the line that it says; an unreadable line is refusal 11, and has no letter afterwards
 unfoldable pub answerTo : Limits → Table → Command → Line → Command
 answerTo L t c (update a) = numbered c (slotNumber (updateAt L t a .answer))
 answerTo L t c (fork a) = numbered c (slotNumber (forkAt L t a .answer))
 answerTo L t c (join a b) = numbered c (slotNumber (joinAt L t a b .answer))
 answerTo L t c (compare a b) = stood c (standingAt L t a b)
 answerTo L t c (spare a) = numbered c (sparedNumber (spareAt L t a))
-answerTo L t c unreadable = numbered c (1000 + number Unread)
+answerTo L t c unreadable = record { op = 0; a = 1000 + number Unread; b = c .b }
 
 abbrev pub answer : Limits → Table → Command → Command
 answer L t c = answerTo L t c (meant c)

@@ -24,7 +24,8 @@ module _ (t : Table) (a b : ℕ) where
 
   answer-by : (op : ℕ) (u f j c s : Bool) → cond u (command op (slotNumber (updateAt narrow t a .answer)) b)
       (cond f (command op (slotNumber (forkAt narrow t a .answer)) b) (cond j (command op (slotNumber (joinAt narrow t a b .answer)) b)
-      (cond c (stood (command op 0 b) (standingAt narrow t a b)) (cond s (command op (sparedNumber (spareAt narrow t a)) b) (command op (1000 + number Unread) b)))))
+      (cond c (stood (command op 0 b) (standingAt narrow t a b)) (cond s (command op (sparedNumber (spareAt narrow t a)) b)
+      (command 0 (1000 + number Unread) b)))))
       ≡ answerTo narrow t (command op a b) (by-letter u f j c s)
   unfolding answerTo
   answer-by op true f j c s = refl

@@ -12,11 +12,11 @@ use Rattle.lines.specs.declared.Command.{Command}
 use Rattle.lines.specs.Runs.{stood}
 use Rattle.traces.specs.Serves.{command}
 
--- the two letters that only read; refusal 11 for any other
+-- the two letters that only read; refusal 11, and no letter, for any other
 unfoldable pub toldBy : Table → ℕ → ℕ → ℕ → Command
 toldBy t op a b =
     cond (eqb op 67) (stood (command op 0 b) (standingAt narrow t a b))
-    (cond (eqb op 83) (command op (sparedNumber (spareAt narrow t a)) b) (command op (1000 + number Unread) b))
+    (cond (eqb op 83) (command op (sparedNumber (spareAt narrow t a)) b) (command 0 (1000 + number Unread) b))
 
 -- the three that change the table; n for any other
 unfoldable pub changedBy : Table → ℕ → ℕ → ℕ → Command → Command

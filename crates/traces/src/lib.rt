@@ -17,7 +17,9 @@ use lines::UPDATE;
 use rules::Record;
 use rules::Standing;
 
-// What a letter that is none is answered: refusal 11.
+// What a letter that is none becomes, and is answered: refusal 11.
+const NONE: u64 = 0;
+
 const UNREAD: u64 = 1011;
 
 // One command, with its answer. A letter that is none does nothing and is refused.
@@ -62,7 +64,7 @@ fn made_fresh(table: [Record; 32]) -> [Record; 32]
     t
 }
 
-// A command that only reads, with its answer; refusal 11 to any other.
+// A command that only reads, with its answer; refusal 11, and no letter, to any other.
 fn tell(t: &[Record], op: u64, a: usize, b: usize) -> Command
     ensures { λ r. ⌜ r ≡ toldBy (now (t .entry)) op a b ⌝ }
 {
@@ -72,7 +74,7 @@ fn tell(t: &[Record], op: u64, a: usize, b: usize) -> Command
     if op == SPARE {
         return numbered(op, tables::spare(t, a), b);
     }
-    numbered(op, UNREAD, b)
+    numbered(NONE, UNREAD, b)
 }
 
 // A command that changes the table, with its answer; n to any other.

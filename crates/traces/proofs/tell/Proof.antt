@@ -63,10 +63,10 @@ module _ {M : Type 1} (𝓤 : URA M) (H : Heap 𝓤) (A : Atoms 𝓤) (W : Given
       let p : said-by op (sparedNumber (spareAt narrow ys i)) j ≡ toldBy ys op i j = simp (e₀, e₁) in
       by ! (shuts (said-by op r j) (ap (λ (n : ℕ). said-by op n j) at ∙ p) is′))))
       (λ no. let e₁ : eqb op 83 ≡ false = holds-false (eqb op 83) no in
-      calls-by ! fm (number ∷ number ∷ number ∷ []) command numberedOf known-numbered (op, (1011, (j, tt))) (good .0, ((refl, lit< tt), (good .1 .1 .0, tt)))
-      (and-then ! (var ! refl) (and-then ! (lit ! tt) (and-then ! (var ! refl) (no-more !)))) refl refl (λ is.
+      calls-by ! fm (number ∷ number ∷ number ∷ []) command numberedOf known-numbered (0, (1011, (j, tt))) ((refl, lit< tt), ((refl, lit< tt), (good .1 .1 .0, tt)))
+      (and-then ! (lit ! tt) (and-then ! (lit ! tt) (and-then ! (var ! refl) (no-more !)))) refl refl (λ is.
       returns ! (look ! 0 refl) $ leaves ! refl refl $
-      let p : said-by op 1011 j ≡ toldBy ys op i j = simp (e₀, e₁) in by ! (shuts (said-by op 1011 j) p is))))
+      let p : said-by 0 1011 j ≡ toldBy ys op i j = simp (e₀, e₁) in by ! (shuts (said-by 0 1011 j) p is))))
 
 pub tell-spec : {M : Type 1} → stated.statement M
 unfolding code.routine tablesOf
