@@ -14,19 +14,19 @@ use Rattle.calls.specs.contracts.compare
 use Rattle.calls.specs.contracts.keep
 use Rattle.calls.specs.contracts.room
 
-pub update_one_answer : OneAnswer update.ended (λ M 𝓤. update.clauses 𝓤) (λ M 𝓤. update.spec 𝓤)
+pub update_one_answer : OneAnswer update.ended (λ M 𝓤 𝓛. update.clauses 𝓛) (λ M 𝓤 𝓛. update.spec 𝓛)
 update_one_answer M 𝓤 𝓛 mem run = (refl, λ κs a g h r s v w. both_say 𝓤 (λ e f. (agree e.0 f.0, λ i. (tt, (agree e.1 f.1 i, tt)))))
 
-pub fork_one_answer : OneAnswer fork.ended (λ M 𝓤. fork.clauses 𝓤) (λ M 𝓤. fork.spec 𝓤)
+pub fork_one_answer : OneAnswer fork.ended (λ M 𝓤 𝓛. fork.clauses 𝓛) (λ M 𝓤 𝓛. fork.spec 𝓛)
 fork_one_answer M 𝓤 𝓛 mem run = (refl, λ κs a g h r s v w. both_say 𝓤 (λ e f. (agree e.0 f.0, λ i. (tt, (agree e.1 f.1 i, (agree e.2 f.2 i, tt))))))
 
-pub join_one_answer : OneAnswer join.ended (λ M 𝓤. join.clauses 𝓤) (λ M 𝓤. join.spec 𝓤)
+pub join_one_answer : OneAnswer join.ended (λ M 𝓤 𝓛. join.clauses 𝓛) (λ M 𝓤 𝓛. join.spec 𝓛)
 join_one_answer M 𝓤 𝓛 mem run = (refl, λ κs a g h r s v w. both_say 𝓤 (λ e f. (agree e.0 f.0, λ i. (tt, (tt, (agree e.1 f.1 i, tt))))))
 
-pub compare_one_answer : OneAnswer compare.ended (λ M 𝓤. compare.clauses 𝓤) (λ M 𝓤. compare.spec 𝓤)
+pub compare_one_answer : OneAnswer compare.ended (λ M 𝓤 𝓛. compare.clauses 𝓛) (λ M 𝓤 𝓛. compare.spec 𝓛)
 compare_one_answer M 𝓤 𝓛 mem run = (refl, λ κs a g h r s v w. both_say 𝓤 (λ e f. (agree e f, refl)))
 
-pub room_one_answer : OneAnswer room.ended (λ M 𝓤. room.clauses 𝓤) (λ M 𝓤. room.spec 𝓤)
+pub room_one_answer : OneAnswer room.ended (λ M 𝓤 𝓛. room.clauses 𝓛) (λ M 𝓤 𝓛. room.spec 𝓛)
 room_one_answer M 𝓤 𝓛 mem run = (refl, λ κs a g h r s v w. both_say 𝓤 (λ e f. (agree e f, refl)))
 
 -- what a caller sees of a slice: where it begins, and its bytes
@@ -42,7 +42,7 @@ kept_agree the_first s t p q e f = ap shown (agree e f)
 kept_agree the_second s t p q e f = ap shown (agree e f)
 kept_agree neither s t p q e f = λ i. (agree e.0 f.0 i, agree e.1 f.1 i)
 
-pub keep_one_answer : OneSeen keep.ended (λ κs. Shown) (λ κs r. shown r) (λ M 𝓤. keep.clauses 𝓤) (λ M 𝓤. keep.spec 𝓤)
+pub keep_one_answer : OneSeen keep.ended (λ κs. Shown) (λ κs r. shown r) (λ M 𝓤 𝓛. keep.clauses 𝓛) (λ M 𝓤 𝓛. keep.spec 𝓛)
 keep_one_answer M 𝓤 𝓛 mem run = (
   refl,
   λ κs a g h r s v w. both_say 𝓤 (λ e f. (kept_agree (side_of (packed_compare narrow a.0.now a.1.0.now)) a.0 a.1.0 r s e f, refl)),

@@ -1,1 +1,2 @@
 // No code: the steps of proofs/ are what this crate is for.
+#![tactic(auto)]

@@ -1,1 +1,2 @@
 // No code: what every history of calls keeps stands in proofs/.
+#![tactic(auto)]

@@ -6,13 +6,13 @@ use Rattle.inputs.specs.contracts.start
 use Rattle.inputs.specs.contracts.feed
 use Rattle.inputs.specs.contracts.close
 
-pub start_one_answer : OneAnswer start.ended (λ M 𝓤. start.clauses 𝓤) (λ M 𝓤. start.spec 𝓤)
+pub start_one_answer : OneAnswer start.ended (λ M 𝓤 𝓛. start.clauses 𝓛) (λ M 𝓤 𝓛. start.spec 𝓛)
 start_one_answer M 𝓤 𝓛 mem run = (refl, λ κs a g h r s v w. both_say 𝓤 (λ e f. (agree e f, refl)))
 
-pub feed_one_answer : OneAnswer feed.ended (λ M 𝓤. feed.clauses 𝓤) (λ M 𝓤. feed.spec 𝓤)
+pub feed_one_answer : OneAnswer feed.ended (λ M 𝓤 𝓛. feed.clauses 𝓛) (λ M 𝓤 𝓛. feed.spec 𝓛)
 feed_one_answer M 𝓤 𝓛 mem run =
     (refl, λ κs a g h r s v w. both_say 𝓤 (λ e f. (agree e.0 f.0, λ i. (tt, (tt, (agree e.1 f.1 i, tt))))))
 
-pub close_one_answer : OneAnswer close.ended (λ M 𝓤. close.clauses 𝓤) (λ M 𝓤. close.spec 𝓤)
+pub close_one_answer : OneAnswer close.ended (λ M 𝓤 𝓛. close.clauses 𝓛) (λ M 𝓤 𝓛. close.spec 𝓛)
 close_one_answer M 𝓤 𝓛 mem run =
     (refl, λ κs a g h r s v w. both_say 𝓤 (λ e f. (agree e.0 f.0, λ i. (tt, (agree e.1 f.1 i, tt)))))

@@ -4,5 +4,5 @@ use Rattle.rules.specs.OneAnswer.{OneAnswer}
 use Rattle.laws.proofs.Contracts.{agree, both_say}
 use Rattle.joins.specs.contracts.join
 
-pub join_one_answer : OneAnswer join.ended (λ M 𝓤. join.clauses 𝓤) (λ M 𝓤. join.spec 𝓤)
+pub join_one_answer : OneAnswer join.ended (λ M 𝓤 𝓛. join.clauses 𝓛) (λ M 𝓤 𝓛. join.spec 𝓛)
 join_one_answer M 𝓤 𝓛 mem run = (refl, λ κs a g h r s v w. both_say 𝓤 (λ e f. (agree e f, refl)))

@@ -1,1 +1,2 @@
 // No code: the laws of proofs/ are what this crate is for.
+#![tactic(auto)]

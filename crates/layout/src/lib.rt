@@ -1,4 +1,5 @@
 // The numbers of the packed form. No code: the laws of proofs/ are what this crate is for.
+#![tactic(auto)]
 
 // A packed stamp has at most so many bytes.
 pub const BYTES: usize = 117;

@@ -7,14 +7,14 @@ use Rattle.lines.specs.contracts.push
 use Rattle.lines.specs.contracts.parse
 use Rattle.lines.specs.contracts.gather
 
-pub begin_one_answer : OneAnswer begin.ended (λ M 𝓤. begin.clauses 𝓤) (λ M 𝓤. begin.spec 𝓤)
+pub begin_one_answer : OneAnswer begin.ended (λ M 𝓤 𝓛. begin.clauses 𝓛) (λ M 𝓤 𝓛. begin.spec 𝓛)
 begin_one_answer M 𝓤 𝓛 mem run = (refl, λ κs a g h r s v w. both_say 𝓤 (λ e f. (agree e f, refl)))
 
-pub push_one_answer : OneAnswer push.ended (λ M 𝓤. push.clauses 𝓤) (λ M 𝓤. push.spec 𝓤)
+pub push_one_answer : OneAnswer push.ended (λ M 𝓤 𝓛. push.clauses 𝓛) (λ M 𝓤 𝓛. push.spec 𝓛)
 push_one_answer M 𝓤 𝓛 mem run = (refl, λ κs a g h r s v w. both_say 𝓤 (λ e f. (agree e f, refl)))
 
-pub parse_one_answer : OneAnswer parse.ended (λ M 𝓤. parse.clauses 𝓤) (λ M 𝓤. parse.spec 𝓤)
+pub parse_one_answer : OneAnswer parse.ended (λ M 𝓤 𝓛. parse.clauses 𝓛) (λ M 𝓤 𝓛. parse.spec 𝓛)
 parse_one_answer M 𝓤 𝓛 mem run = (refl, λ κs a g h r s v w. both_say 𝓤 (λ e f. (agree e f, refl)))
 
-pub gather_one_answer : OneAnswer gather.ended (λ M 𝓤. gather.clauses 𝓤) (λ M 𝓤. gather.spec 𝓤)
+pub gather_one_answer : OneAnswer gather.ended (λ M 𝓤 𝓛. gather.clauses 𝓛) (λ M 𝓤 𝓛. gather.spec 𝓛)
 gather_one_answer M 𝓤 𝓛 mem run = (refl, λ κs a g h r s v w. both_say 𝓤 (λ e f. (agree e.0 f.0, λ i. (tt, (tt, (agree e.1 f.1 i, tt))))))

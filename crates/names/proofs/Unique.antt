@@ -8,15 +8,15 @@ use Rattle.names.specs.contracts.counted
 use Rattle.names.specs.contracts.grow
 use Rattle.names.specs.contracts.is_zero_from
 
-pub is_name_in_one_answer : OneAnswer is_name_in.ended (λ M 𝓤. is_name_in.clauses 𝓤) (λ M 𝓤. is_name_in.spec 𝓤)
+pub is_name_in_one_answer : OneAnswer is_name_in.ended (λ M 𝓤 𝓛. is_name_in.clauses 𝓛) (λ M 𝓤 𝓛. is_name_in.spec 𝓛)
 is_name_in_one_answer M 𝓤 𝓛 mem run = (refl, λ κs a g h r s v w. both_say 𝓤 (λ e f. (agree e f, refl)))
 
 -- what a caller sees of a slice: where it begins, and its words
-pub counted_one_answer : OneSeen counted.ended (λ κs. (ℕ × ℕ) × List ℕ) (λ κs r. (r.ref_ptr, r.now)) (λ M 𝓤. counted.clauses 𝓤) (λ M 𝓤. counted.spec 𝓤)
+pub counted_one_answer : OneSeen counted.ended (λ κs. (ℕ × ℕ) × List ℕ) (λ κs r. (r.ref_ptr, r.now)) (λ M 𝓤 𝓛. counted.clauses 𝓛) (λ M 𝓤 𝓛. counted.spec 𝓛)
 counted_one_answer M 𝓤 𝓛 mem run = (refl, λ κs a g h r s v w. both_say 𝓤 (λ e f. (λ i. (agree e.0 f.0 i, agree e.1 f.1 i), refl)))
 
-pub grow_one_answer : OneAnswer grow.ended (λ M 𝓤. grow.clauses 𝓤) (λ M 𝓤. grow.spec 𝓤)
+pub grow_one_answer : OneAnswer grow.ended (λ M 𝓤 𝓛. grow.clauses 𝓛) (λ M 𝓤 𝓛. grow.spec 𝓛)
 grow_one_answer M 𝓤 𝓛 mem run = (refl, λ κs a g h r s v w. both_say 𝓤 (λ e f. (refl, λ i. (tt, (agree e.0 f.0 i, (agree e.1 f.1 i, tt))))))
 
-pub is_zero_from_one_answer : OneAnswer is_zero_from.ended (λ M 𝓤. is_zero_from.clauses 𝓤) (λ M 𝓤. is_zero_from.spec 𝓤)
+pub is_zero_from_one_answer : OneAnswer is_zero_from.ended (λ M 𝓤 𝓛. is_zero_from.clauses 𝓛) (λ M 𝓤 𝓛. is_zero_from.spec 𝓛)
 is_zero_from_one_answer M 𝓤 𝓛 mem run = (refl, λ κs a g h r s v w. both_say 𝓤 (λ e f. (agree e f, refl)))

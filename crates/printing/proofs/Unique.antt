@@ -4,5 +4,5 @@ use Rattle.rules.specs.OneAnswer.{OneAnswer}
 use Rattle.laws.proofs.Contracts.{agree, both_say}
 use Rattle.printing.specs.contracts.print
 
-pub print_one_answer : OneAnswer print.ended (λ M 𝓤. print.clauses 𝓤) (λ M 𝓤. print.spec 𝓤)
+pub print_one_answer : OneAnswer print.ended (λ M 𝓤 𝓛. print.clauses 𝓛) (λ M 𝓤 𝓛. print.spec 𝓛)
 print_one_answer M 𝓤 𝓛 mem run = (refl, λ κs a g h r s v w. both_say 𝓤 (λ e f. (agree e.0 f.0, λ i. (tt, (agree e.1 f.1 i, tt)))))

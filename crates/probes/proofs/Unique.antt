@@ -20,54 +20,54 @@ use Rattle.probes.specs.contracts.probe_met
 use Rattle.probes.specs.contracts.probe_compared
 use Rattle.probes.specs.contracts.probe_stood
 
-pub probe_fresh_one_answer : OneAnswer probe_fresh.ended (λ M 𝓤. probe_fresh.clauses 𝓤) (λ M 𝓤. probe_fresh.spec 𝓤)
+pub probe_fresh_one_answer : OneAnswer probe_fresh.ended (λ M 𝓤 𝓛. probe_fresh.clauses 𝓛) (λ M 𝓤 𝓛. probe_fresh.spec 𝓛)
 probe_fresh_one_answer M 𝓤 𝓛 mem run = (refl, λ κs a g h r s v w. both_say 𝓤 (λ e f. (agree e.0 f.0, λ i. (agree e.1 f.1 i, tt))))
 
-pub probe_update_one_answer : OneAnswer probe_update.ended (λ M 𝓤. probe_update.clauses 𝓤) (λ M 𝓤. probe_update.spec 𝓤)
+pub probe_update_one_answer : OneAnswer probe_update.ended (λ M 𝓤 𝓛. probe_update.clauses 𝓛) (λ M 𝓤 𝓛. probe_update.spec 𝓛)
 probe_update_one_answer M 𝓤 𝓛 mem run = (refl, λ κs a g h r s v w. both_say 𝓤 (λ e f. (agree e.0 f.0, λ i. (agree e.1 f.1 i, (tt, tt)))))
 
-pub probe_fork_one_answer : OneAnswer probe_fork.ended (λ M 𝓤. probe_fork.clauses 𝓤) (λ M 𝓤. probe_fork.spec 𝓤)
+pub probe_fork_one_answer : OneAnswer probe_fork.ended (λ M 𝓤 𝓛. probe_fork.clauses 𝓛) (λ M 𝓤 𝓛. probe_fork.spec 𝓛)
 probe_fork_one_answer M 𝓤 𝓛 mem run = (refl, λ κs a g h r s v w. both_say 𝓤 (λ e f. (agree e.0 f.0, λ i. (agree e.1 f.1 i, (tt, tt)))))
 
-pub probe_join_one_answer : OneAnswer probe_join.ended (λ M 𝓤. probe_join.clauses 𝓤) (λ M 𝓤. probe_join.spec 𝓤)
+pub probe_join_one_answer : OneAnswer probe_join.ended (λ M 𝓤 𝓛. probe_join.clauses 𝓛) (λ M 𝓤 𝓛. probe_join.spec 𝓛)
 probe_join_one_answer M 𝓤 𝓛 mem run = (refl, λ κs a g h r s v w. both_say 𝓤 (λ e f. (agree e.0 f.0, λ i. (agree e.1 f.1 i, (tt, (tt, tt))))))
 
-pub probe_compare_one_answer : OneAnswer probe_compare.ended (λ M 𝓤. probe_compare.clauses 𝓤) (λ M 𝓤. probe_compare.spec 𝓤)
+pub probe_compare_one_answer : OneAnswer probe_compare.ended (λ M 𝓤 𝓛. probe_compare.clauses 𝓛) (λ M 𝓤 𝓛. probe_compare.spec 𝓛)
 probe_compare_one_answer M 𝓤 𝓛 mem run = (refl, λ κs a g h r s v w. both_say 𝓤 (λ e f. (agree e f, refl)))
 
-pub probe_spare_one_answer : OneAnswer probe_spare.ended (λ M 𝓤. probe_spare.clauses 𝓤) (λ M 𝓤. probe_spare.spec 𝓤)
+pub probe_spare_one_answer : OneAnswer probe_spare.ended (λ M 𝓤 𝓛. probe_spare.clauses 𝓛) (λ M 𝓤 𝓛. probe_spare.spec 𝓛)
 probe_spare_one_answer M 𝓤 𝓛 mem run = (refl, λ κs a g h r s v w. both_say 𝓤 (λ e f. (agree e f, refl)))
 
-pub probe_read_one_answer : OneAnswer probe_read.ended (λ M 𝓤. probe_read.clauses 𝓤) (λ M 𝓤. probe_read.spec 𝓤)
+pub probe_read_one_answer : OneAnswer probe_read.ended (λ M 𝓤 𝓛. probe_read.clauses 𝓛) (λ M 𝓤 𝓛. probe_read.spec 𝓛)
 probe_read_one_answer M 𝓤 𝓛 mem run = (refl, λ κs a g h r s v w. both_say 𝓤 (λ e f. (agree e.0 f.0, λ i. (tt, (agree e.1 f.1 i, tt)))))
 
-pub probe_write_one_answer : OneAnswer probe_write.ended (λ M 𝓤. probe_write.clauses 𝓤) (λ M 𝓤. probe_write.spec 𝓤)
+pub probe_write_one_answer : OneAnswer probe_write.ended (λ M 𝓤 𝓛. probe_write.clauses 𝓛) (λ M 𝓤 𝓛. probe_write.spec 𝓛)
 probe_write_one_answer M 𝓤 𝓛 mem run = (refl, λ κs a g h r s v w. both_say 𝓤 (λ e f. (agree e.0 f.0, λ i. (tt, (agree e.1 f.1 i, tt)))))
 
-pub probe_entry_one_answer : OneAnswer probe_entry.ended (λ M 𝓤. probe_entry.clauses 𝓤) (λ M 𝓤. probe_entry.spec 𝓤)
+pub probe_entry_one_answer : OneAnswer probe_entry.ended (λ M 𝓤 𝓛. probe_entry.clauses 𝓛) (λ M 𝓤 𝓛. probe_entry.spec 𝓛)
 probe_entry_one_answer M 𝓤 𝓛 mem run = (refl, λ κs a g h r s v w. both_say 𝓤 (λ e f. (agree e.0 f.0, λ i. (tt, (tt, (agree e.1 f.1 i, tt))))))
 
-pub probe_keep_one_answer : OneAnswer probe_keep.ended (λ M 𝓤. probe_keep.clauses 𝓤) (λ M 𝓤. probe_keep.spec 𝓤)
+pub probe_keep_one_answer : OneAnswer probe_keep.ended (λ M 𝓤 𝓛. probe_keep.clauses 𝓛) (λ M 𝓤 𝓛. probe_keep.spec 𝓛)
 probe_keep_one_answer M 𝓤 𝓛 mem run = (refl, λ κs a g h r s v w. both_say 𝓤 (λ e f. (agree e f, refl)))
 
-pub probe_is_lawful_one_answer : OneAnswer probe_is_lawful.ended (λ M 𝓤. probe_is_lawful.clauses 𝓤) (λ M 𝓤. probe_is_lawful.spec 𝓤)
+pub probe_is_lawful_one_answer : OneAnswer probe_is_lawful.ended (λ M 𝓤 𝓛. probe_is_lawful.clauses 𝓛) (λ M 𝓤 𝓛. probe_is_lawful.spec 𝓛)
 probe_is_lawful_one_answer M 𝓤 𝓛 mem run = (refl, λ κs a g h r s v w. both_say 𝓤 (λ e f. (agree e f, refl)))
 
-pub probe_updated_one_answer : OneAnswer probe_updated.ended (λ M 𝓤. probe_updated.clauses 𝓤) (λ M 𝓤. probe_updated.spec 𝓤)
+pub probe_updated_one_answer : OneAnswer probe_updated.ended (λ M 𝓤 𝓛. probe_updated.clauses 𝓛) (λ M 𝓤 𝓛. probe_updated.spec 𝓛)
 probe_updated_one_answer M 𝓤 𝓛 mem run = (refl, λ κs a g h r s v w. both_say 𝓤 (λ e f. (agree e.0 f.0, λ i. (tt, (agree e.1 f.1 i, tt)))))
 
-pub probe_forked_one_answer : OneAnswer probe_forked.ended (λ M 𝓤. probe_forked.clauses 𝓤) (λ M 𝓤. probe_forked.spec 𝓤)
+pub probe_forked_one_answer : OneAnswer probe_forked.ended (λ M 𝓤 𝓛. probe_forked.clauses 𝓛) (λ M 𝓤 𝓛. probe_forked.spec 𝓛)
 probe_forked_one_answer M 𝓤 𝓛 mem run =
     (refl, λ κs a g h r s v w. both_say 𝓤 (λ e f. (agree e.0 f.0, λ i. (tt, (agree e.1 f.1 i, (agree e.2 f.2 i, tt))))))
 
-pub probe_joined_one_answer : OneAnswer probe_joined.ended (λ M 𝓤. probe_joined.clauses 𝓤) (λ M 𝓤. probe_joined.spec 𝓤)
+pub probe_joined_one_answer : OneAnswer probe_joined.ended (λ M 𝓤 𝓛. probe_joined.clauses 𝓛) (λ M 𝓤 𝓛. probe_joined.spec 𝓛)
 probe_joined_one_answer M 𝓤 𝓛 mem run = (refl, λ κs a g h r s v w. both_say 𝓤 (λ e f. (agree e.0 f.0, λ i. (tt, (tt, (agree e.1 f.1 i, tt))))))
 
-pub probe_met_one_answer : OneAnswer probe_met.ended (λ M 𝓤. probe_met.clauses 𝓤) (λ M 𝓤. probe_met.spec 𝓤)
+pub probe_met_one_answer : OneAnswer probe_met.ended (λ M 𝓤 𝓛. probe_met.clauses 𝓛) (λ M 𝓤 𝓛. probe_met.spec 𝓛)
 probe_met_one_answer M 𝓤 𝓛 mem run = (refl, λ κs a g h r s v w. both_say 𝓤 (λ e f. (agree e f, refl)))
 
-pub probe_compared_one_answer : OneAnswer probe_compared.ended (λ M 𝓤. probe_compared.clauses 𝓤) (λ M 𝓤. probe_compared.spec 𝓤)
+pub probe_compared_one_answer : OneAnswer probe_compared.ended (λ M 𝓤 𝓛. probe_compared.clauses 𝓛) (λ M 𝓤 𝓛. probe_compared.spec 𝓛)
 probe_compared_one_answer M 𝓤 𝓛 mem run = (refl, λ κs a g h r s v w. both_say 𝓤 (λ e f. (agree e.0 f.0, λ i. (tt, (tt, (agree e.1 f.1 i, tt))))))
 
-pub probe_stood_one_answer : OneAnswer probe_stood.ended (λ M 𝓤. probe_stood.clauses 𝓤) (λ M 𝓤. probe_stood.spec 𝓤)
+pub probe_stood_one_answer : OneAnswer probe_stood.ended (λ M 𝓤 𝓛. probe_stood.clauses 𝓛) (λ M 𝓤 𝓛. probe_stood.spec 𝓛)
 probe_stood_one_answer M 𝓤 𝓛 mem run = (refl, λ κs a g h r s v w. both_say 𝓤 (λ e f. (agree e.0 f.0, λ i. (tt, (tt, (agree e.1 f.1 i, tt))))))

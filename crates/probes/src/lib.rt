@@ -1,6 +1,7 @@
 // What the tests in C call beside the functions of the header: the table's functions on a lent run of any length and content, and
 // the functions by value with a record as 34 words, of the update name and of the id a count and 16. An answer is a number: 0, a verdict's
 // or how many bytes, or 1,000 plus the refusal's. Nothing of the product uses this crate.
+#![tactic(auto)]
 mod words;
 
 ghost use Rattle.std.specs.Prelude.{◌≡◌, [], length};

@@ -4,6 +4,6 @@ use Rattle.rules.specs.OneAnswer.{OneAnswer}
 use Rattle.laws.proofs.Contracts.{agree, both_say}
 use Rattle.reading.specs.contracts.read_in
 
-pub read_in_one_answer : OneAnswer read_in.ended (λ M 𝓤. read_in.clauses 𝓤) (λ M 𝓤. read_in.spec 𝓤)
+pub read_in_one_answer : OneAnswer read_in.ended (λ M 𝓤 𝓛. read_in.clauses 𝓛) (λ M 𝓤 𝓛. read_in.spec 𝓛)
 read_in_one_answer M 𝓤 𝓛 mem run =
     (refl, λ κs a g h r s v w. both_say 𝓤 (λ e f. (agree e.0 f.0, λ i. (tt, (agree e.1 f.1 i, (agree e.2 f.2 i, tt))))))

@@ -1,4 +1,5 @@
 // The records and the answers that the rules speak of. What they mean stands in specs/; nothing here acts.
+#![tactic(auto)]
 
 // A name as it is stored: how many strings, and each of them in a word; the words behind them are 0.
 // A word has a string's digits from the top down, and its length in the six low bits.

@@ -12,29 +12,29 @@ use Rattle.slots.specs.contracts.standing_of
 use Rattle.slots.specs.contracts.is_absent
 use Rattle.slots.specs.contracts.slot_code
 
-pub gate_one_answer : OneAnswer gate.ended (λ M 𝓤. gate.clauses 𝓤) (λ M 𝓤. gate.spec 𝓤)
+pub gate_one_answer : OneAnswer gate.ended (λ M 𝓤 𝓛. gate.clauses 𝓛) (λ M 𝓤 𝓛. gate.spec 𝓛)
 gate_one_answer M 𝓤 𝓛 mem run = (refl, λ κs a g h r s v w. both_say 𝓤 (λ e f. (agree e f, refl)))
 
-pub fresh_slot_one_answer : OneAnswer fresh_slot.ended (λ M 𝓤. fresh_slot.clauses 𝓤) (λ M 𝓤. fresh_slot.spec 𝓤)
+pub fresh_slot_one_answer : OneAnswer fresh_slot.ended (λ M 𝓤 𝓛. fresh_slot.clauses 𝓛) (λ M 𝓤 𝓛. fresh_slot.spec 𝓛)
 fresh_slot_one_answer M 𝓤 𝓛 mem run = (refl, λ κs a g h r s v w. both_say 𝓤 (λ e f. (agree e f, refl)))
 
-pub update_rule_one_answer : OneAnswer update_rule.ended (λ M 𝓤. update_rule.clauses 𝓤) (λ M 𝓤. update_rule.spec 𝓤)
+pub update_rule_one_answer : OneAnswer update_rule.ended (λ M 𝓤 𝓛. update_rule.clauses 𝓛) (λ M 𝓤 𝓛. update_rule.spec 𝓛)
 update_rule_one_answer M 𝓤 𝓛 mem run = (refl, λ κs a g h r s v w. both_say 𝓤 (λ e f. (agree e f, refl)))
 
-pub fork_rule_one_answer : OneAnswer fork_rule.ended (λ M 𝓤. fork_rule.clauses 𝓤) (λ M 𝓤. fork_rule.spec 𝓤)
+pub fork_rule_one_answer : OneAnswer fork_rule.ended (λ M 𝓤 𝓛. fork_rule.clauses 𝓛) (λ M 𝓤 𝓛. fork_rule.spec 𝓛)
 fork_rule_one_answer M 𝓤 𝓛 mem run = (refl, λ κs a g h r s v w. both_say 𝓤 (λ e f. (agree e f, refl)))
 
-pub join_rule_one_answer : OneAnswer join_rule.ended (λ M 𝓤. join_rule.clauses 𝓤) (λ M 𝓤. join_rule.spec 𝓤)
+pub join_rule_one_answer : OneAnswer join_rule.ended (λ M 𝓤 𝓛. join_rule.clauses 𝓛) (λ M 𝓤 𝓛. join_rule.spec 𝓛)
 join_rule_one_answer M 𝓤 𝓛 mem run = (refl, λ κs a g h r s v w. both_say 𝓤 (λ e f. (agree e f, refl)))
 
-pub compare_rule_one_answer : OneAnswer compare_rule.ended (λ M 𝓤. compare_rule.clauses 𝓤) (λ M 𝓤. compare_rule.spec 𝓤)
+pub compare_rule_one_answer : OneAnswer compare_rule.ended (λ M 𝓤 𝓛. compare_rule.clauses 𝓛) (λ M 𝓤 𝓛. compare_rule.spec 𝓛)
 compare_rule_one_answer M 𝓤 𝓛 mem run = (refl, λ κs a g h r s v w. both_say 𝓤 (λ e f. (agree e f, refl)))
 
-pub standing_of_one_answer : OneAnswer standing_of.ended (λ M 𝓤. standing_of.clauses 𝓤) (λ M 𝓤. standing_of.spec 𝓤)
+pub standing_of_one_answer : OneAnswer standing_of.ended (λ M 𝓤 𝓛. standing_of.clauses 𝓛) (λ M 𝓤 𝓛. standing_of.spec 𝓛)
 standing_of_one_answer M 𝓤 𝓛 mem run = (refl, λ κs a g h r s v w. both_say 𝓤 (λ e f. (agree e f, refl)))
 
-pub is_absent_one_answer : OneAnswer is_absent.ended (λ M 𝓤. is_absent.clauses 𝓤) (λ M 𝓤. is_absent.spec 𝓤)
+pub is_absent_one_answer : OneAnswer is_absent.ended (λ M 𝓤 𝓛. is_absent.clauses 𝓛) (λ M 𝓤 𝓛. is_absent.spec 𝓛)
 is_absent_one_answer M 𝓤 𝓛 mem run = (refl, λ κs a g h r s v w. both_say 𝓤 (λ e f. (agree e f, refl)))
 
-pub slot_code_one_answer : OneAnswer slot_code.ended (λ M 𝓤. slot_code.clauses 𝓤) (λ M 𝓤. slot_code.spec 𝓤)
+pub slot_code_one_answer : OneAnswer slot_code.ended (λ M 𝓤 𝓛. slot_code.clauses 𝓛) (λ M 𝓤 𝓛. slot_code.spec 𝓛)
 slot_code_one_answer M 𝓤 𝓛 mem run = (refl, λ κs a g h r s v w. both_say 𝓤 (λ e f. (agree e f, refl)))

@@ -7,14 +7,14 @@ use Rattle.strings.specs.contracts.begins
 use Rattle.strings.specs.contracts.are_siblings
 use Rattle.strings.specs.contracts.is_word
 
-pub shared_one_answer : OneAnswer shared.ended (λ M 𝓤. shared.clauses 𝓤) (λ M 𝓤. shared.spec 𝓤)
+pub shared_one_answer : OneAnswer shared.ended (λ M 𝓤 𝓛. shared.clauses 𝓛) (λ M 𝓤 𝓛. shared.spec 𝓛)
 shared_one_answer M 𝓤 𝓛 mem run = (refl, λ κs a g h r s v w. both_say 𝓤 (λ e f. (agree e f, refl)))
 
-pub begins_one_answer : OneAnswer begins.ended (λ M 𝓤. begins.clauses 𝓤) (λ M 𝓤. begins.spec 𝓤)
+pub begins_one_answer : OneAnswer begins.ended (λ M 𝓤 𝓛. begins.clauses 𝓛) (λ M 𝓤 𝓛. begins.spec 𝓛)
 begins_one_answer M 𝓤 𝓛 mem run = (refl, λ κs a g h r s v w. both_say 𝓤 (λ e f. (agree e f, refl)))
 
-pub are_siblings_one_answer : OneAnswer are_siblings.ended (λ M 𝓤. are_siblings.clauses 𝓤) (λ M 𝓤. are_siblings.spec 𝓤)
+pub are_siblings_one_answer : OneAnswer are_siblings.ended (λ M 𝓤 𝓛. are_siblings.clauses 𝓛) (λ M 𝓤 𝓛. are_siblings.spec 𝓛)
 are_siblings_one_answer M 𝓤 𝓛 mem run = (refl, λ κs a g h r s v w. both_say 𝓤 (λ e f. (agree e f, refl)))
 
-pub is_word_one_answer : OneAnswer is_word.ended (λ M 𝓤. is_word.clauses 𝓤) (λ M 𝓤. is_word.spec 𝓤)
+pub is_word_one_answer : OneAnswer is_word.ended (λ M 𝓤 𝓛. is_word.clauses 𝓛) (λ M 𝓤 𝓛. is_word.spec 𝓛)
 is_word_one_answer M 𝓤 𝓛 mem run = (refl, λ κs a g h r s v w. both_say 𝓤 (λ e f. (agree e f, refl)))

@@ -1,4 +1,6 @@
 // Strings, each in a word: its digits from the top down, its length in the six low bits.
+#![tactic(auto)]
+
 ghost use Rattle.std.specs.Prelude.{◌≡◌};
 ghost use Rattle.rules.specs.Limits.{narrow};
 ghost use Rattle.rules.specs.Strings.{common, field, siblings, str_of, is_word};

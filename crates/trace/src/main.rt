@@ -1,5 +1,6 @@
 // The trace tool: answers the lines of standard input on standard output. What is answered stands in `inputs`, as text in `printing`; here
 // are the loops over the pieces and over their text.
+#![tactic(auto)]
 ghost use Rattle.std.specs.Prelude.{◌≡◌, true, false, ◌*◌, ◌≤◌, ◌<◌, length};
 ghost use Rattle.printing.specs.Answers.{longest};
 

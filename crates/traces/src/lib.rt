@@ -1,4 +1,5 @@
 // Trace commands at the table: a command is three numbers, the letter and two slots. The table's run is lent on to its functions.
+#![tactic(auto)]
 ghost use Rattle.std.specs.Prelude.{◌≡◌};
 ghost use Rattle.rules.specs.Limits.{narrow, records};
 ghost use Rattle.rules.specs.Tables.{fresh_table};
@@ -44,7 +45,7 @@ pub fn run(commands: &mut [u64], table: [Record; 32]) -> [Record; 32]
 
 // A fresh table of 32: [e|e] in slot 0 and nothing else.
 pub fn fresh_in() -> [Record; 32]
-    ensures { result ≡ fresh_table narrow records }
+    ensures fresh { result ≡ fresh_table narrow records }
 {
     made_fresh([stamps::blank(); 32])
 }

@@ -10,23 +10,23 @@ use Rattle.walks.specs.contracts.is_overlapping
 use Rattle.walks.specs.contracts.has_twins
 use Rattle.walks.specs.contracts.is_long
 
-pub meet_one_answer : OneAnswer meet.ended (λ M 𝓤. meet.clauses 𝓤) (λ M 𝓤. meet.spec 𝓤)
+pub meet_one_answer : OneAnswer meet.ended (λ M 𝓤 𝓛. meet.clauses 𝓛) (λ M 𝓤 𝓛. meet.spec 𝓛)
 meet_one_answer M 𝓤 𝓛 mem run = (refl, λ κs a g h r s v w. both_say 𝓤 (λ e f. (agree e f, refl)))
 
-pub compare_one_answer : OneAnswer compare.ended (λ M 𝓤. compare.clauses 𝓤) (λ M 𝓤. compare.spec 𝓤)
+pub compare_one_answer : OneAnswer compare.ended (λ M 𝓤 𝓛. compare.clauses 𝓛) (λ M 𝓤 𝓛. compare.spec 𝓛)
 compare_one_answer M 𝓤 𝓛 mem run = (refl, λ κs a g h r s v w. both_say 𝓤 (λ e f. (agree e f, refl)))
 
-pub is_below_one_answer : OneAnswer is_below.ended (λ M 𝓤. is_below.clauses 𝓤) (λ M 𝓤. is_below.spec 𝓤)
+pub is_below_one_answer : OneAnswer is_below.ended (λ M 𝓤 𝓛. is_below.clauses 𝓛) (λ M 𝓤 𝓛. is_below.spec 𝓛)
 is_below_one_answer M 𝓤 𝓛 mem run = (refl, λ κs a g h r s v w. both_say 𝓤 (λ e f. (agree e f, refl)))
 
-pub uncovered_one_answer : OneAnswer uncovered.ended (λ M 𝓤. uncovered.clauses 𝓤) (λ M 𝓤. uncovered.spec 𝓤)
+pub uncovered_one_answer : OneAnswer uncovered.ended (λ M 𝓤 𝓛. uncovered.clauses 𝓛) (λ M 𝓤 𝓛. uncovered.spec 𝓛)
 uncovered_one_answer M 𝓤 𝓛 mem run = (refl, λ κs a g h r s v w. both_say 𝓤 (λ e f. (agree e f, refl)))
 
-pub is_overlapping_one_answer : OneAnswer is_overlapping.ended (λ M 𝓤. is_overlapping.clauses 𝓤) (λ M 𝓤. is_overlapping.spec 𝓤)
+pub is_overlapping_one_answer : OneAnswer is_overlapping.ended (λ M 𝓤 𝓛. is_overlapping.clauses 𝓛) (λ M 𝓤 𝓛. is_overlapping.spec 𝓛)
 is_overlapping_one_answer M 𝓤 𝓛 mem run = (refl, λ κs a g h r s v w. both_say 𝓤 (λ e f. (agree e f, refl)))
 
-pub has_twins_one_answer : OneAnswer has_twins.ended (λ M 𝓤. has_twins.clauses 𝓤) (λ M 𝓤. has_twins.spec 𝓤)
+pub has_twins_one_answer : OneAnswer has_twins.ended (λ M 𝓤 𝓛. has_twins.clauses 𝓛) (λ M 𝓤 𝓛. has_twins.spec 𝓛)
 has_twins_one_answer M 𝓤 𝓛 mem run = (refl, λ κs a g h r s v w. both_say 𝓤 (λ e f. (agree e f, refl)))
 
-pub is_long_one_answer : OneAnswer is_long.ended (λ M 𝓤. is_long.clauses 𝓤) (λ M 𝓤. is_long.spec 𝓤)
+pub is_long_one_answer : OneAnswer is_long.ended (λ M 𝓤 𝓛. is_long.clauses 𝓛) (λ M 𝓤 𝓛. is_long.spec 𝓛)
 is_long_one_answer M 𝓤 𝓛 mem run = (refl, λ κs a g h r s v w. both_say 𝓤 (λ e f. (agree e f, refl)))
