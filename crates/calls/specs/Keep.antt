@@ -8,4 +8,4 @@ use Rattle.rules.specs.Packed.{Side, the_first, the_second, neither}
 abbrev pub kept_is : Side → Bor (List ℕ) → Bor (List ℕ) → Bor (List ℕ) → Type 0
 kept_is the_first s t r = r ≡ s
 kept_is the_second s t r = r ≡ t
-kept_is neither s t r = (r.ref_ptr ≡ s.ptr) × (r.now ≡ [])
+kept_is neither s t r = (r.ref_ptr ≡ s.ref_ptr) × (r.now ≡ [])

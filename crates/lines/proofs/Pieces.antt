@@ -103,7 +103,9 @@ lines_from (x ∷ input) l t h = by (eqb x 10) (parts 10 input) (λ m s k. lines
         → cond b (parsed l ∷ ended begun input) (ended (pushed l x) input) ++ last_line (cond b (left begun input) (left (pushed l x) input))
         ≡ commands_of (read_lines (drop_empty_last (before t (cond b ([] ∷ split_at 10 input) (onto_first x (split_at 10 input))))))
     by true r ih = rw (ih begun [] holds_begun, r.2, append-nil, holds_says l t h)
-    by false r ih = rw (ih (pushed l x) (t ++ (x ∷ [])) (holds_pushed l t x h), r.2, append_assoc)
+    by false r ih =
+        ih (pushed l x) (t ++ (x ∷ [])) (holds_pushed l t x h)
+        ∙ rw r.2 (ap (λ (p : Text). commands_of (read_lines (drop_empty_last (p ∷ r.1)))) (append_assoc t (x ∷ []) r.0))
 
 none_before : (input : Text) → before [] (split_at 10 input) ≡ split_at 10 input
 unfolding before

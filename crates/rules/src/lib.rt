@@ -4,7 +4,7 @@
 // A name as it is stored: how many strings, and each of them in a word; the words behind them are 0.
 // A word has a string's digits from the top down, and its length in the six low bits.
 #[repr(C)]
-#[derive(Drop)]
+#[derive(Clone, Copy)]
 pub struct Words {
     pub count: usize,
     pub words: [u64; 16],
@@ -12,14 +12,14 @@ pub struct Words {
 
 // A copy record: a stamp's update name and id name. All zeros where there is no copy. Its layout is that of C, so that C can lend a run.
 #[repr(C)]
-#[derive(Drop)]
+#[derive(Clone, Copy)]
 pub struct Record {
     pub update: Words,
     pub id: Words,
 }
 
 // Why a call is refused. The numbers are those of `number` in specs/Refusals.antt.
-#[derive(Drop)]
+#[derive(Clone, Copy)]
 pub enum Refusal {
     // 1: these bytes are no packed stamp, or no bundle's entry
     Malformed,
@@ -50,7 +50,7 @@ pub enum Refusal {
 }
 
 // How the first of two copies stands to the second.
-#[derive(Drop)]
+#[derive(Clone, Copy)]
 pub enum Verdict {
     Equal,
     Obsolete,
@@ -59,28 +59,28 @@ pub enum Verdict {
 }
 
 // Whether a call was accepted.
-#[derive(Drop)]
+#[derive(Clone, Copy)]
 pub enum Answer {
     Done,
     Refused(Refusal),
 }
 
 // What a comparison says.
-#[derive(Drop)]
+#[derive(Clone, Copy)]
 pub enum Compared {
     Is(Verdict),
     Refused(Refusal),
 }
 
 // The first string of a copy's update name, in rising order, that no string of the other's extends: its place, from 0, and its word.
-#[derive(Drop)]
+#[derive(Clone, Copy)]
 pub struct Uncovered {
     pub place: usize,
     pub word: u64,
 }
 
 // How the first of two copies stands to the second, with the uncovered string of each that has one: obsolete the second's, newer the first's.
-#[derive(Drop)]
+#[derive(Clone, Copy)]
 pub enum Standing {
     Equal,
     Obsolete(Uncovered),
@@ -90,14 +90,14 @@ pub enum Standing {
 }
 
 // One stamp beside the answer; all zeros on refusal.
-#[derive(Drop)]
+#[derive(Clone, Copy)]
 pub struct Given {
     pub answer: Answer,
     pub stamp: Record,
 }
 
 // The two branches of a fork beside the answer; all zeros on refusal.
-#[derive(Drop)]
+#[derive(Clone, Copy)]
 pub struct Forked {
     pub answer: Answer,
     pub zero: Record,
@@ -105,21 +105,21 @@ pub struct Forked {
 }
 
 // How many bytes a packed call wrote.
-#[derive(Drop)]
+#[derive(Clone, Copy)]
 pub enum Written {
     Bytes(usize),
     Refused(Refusal),
 }
 
 // The slot that a table call names: its own, or for a fork the new one.
-#[derive(Drop)]
+#[derive(Clone, Copy)]
 pub enum Slot {
     At(usize),
     Refused(Refusal),
 }
 
 // Whether a copy may go.
-#[derive(Drop)]
+#[derive(Clone, Copy)]
 pub enum Spared {
     Spare,
     Kept,

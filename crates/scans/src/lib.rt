@@ -15,7 +15,7 @@ use stamps::is_lawful_in;
 const FOUND: usize = 1000;
 
 // A search for a copy that makes slot `at` obsolete, whose record is `mine`: where the pass over the table begins.
-#[derive(Drop)]
+#[derive(Clone, Copy)]
 pub struct Scan {
     pub from: usize,
     pub at: usize,

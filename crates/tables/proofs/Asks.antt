@@ -4,6 +4,8 @@ use lib.Dec.{T as Holds}
 
 pub holds_true : (y : Bool) → Holds y → y ≡ true
 holds_true true h = refl
+holds_true false h = elim h [ ]
 
 pub holds_false : (y : Bool) → Holds (not y) → y ≡ false
 holds_false false h = refl
+holds_false true h = elim h [ ]
