@@ -2,3 +2,4 @@
 pub mod Unique
 pub mod Streams
 pub mod Lent
+pub mod Sofar

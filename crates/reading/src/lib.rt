@@ -1,5 +1,6 @@
 // Reading a packed stamp, of any bytes, into lent words: from a bit of the bytes to the bit behind what was read.
 #![tactic(auto)]
+
 ghost use Rattle.std.specs.Prelude.{◌≡◌, not, ◌&&◌, ◌≤◌, ◌<◌, ◌+◌, ◌*◌, ◌^◌, ltb, length, take, drop};
 ghost use Rattle.rules.specs.Limits.{narrow};
 ghost use Rattle.rules.specs.Strings.{field, value};

@@ -1,12 +1,11 @@
 -- `reading::bits_from` meets its contract: of the bits of eight bytes at most seven are lost. Assumes nothing.
-use Rattle.laws.proofs.Library.{◌≡◌, ap, ◌∙◌, Bool, List, ℕ, ◌+◌, ◌*◌, ◌/◌, ◌%◌, ◌^◌, ◌≤◌, arith, needs, length, take, drop, length-drop, length-take-le}
+use Rattle.laws.proofs.Library.{◌≡◌, ap, ◌∙◌, Bool, List, ℕ, ◌+◌, ◌*◌, ◌/◌, ◌%◌, ◌^◌, ◌≤◌, arith, length, take, drop, length-drop, length-take-le}
 use Rattle.laws.proofs.Library.{drop-drop}
 use Rattle.rules.specs.Strings.{field, value}
 use Rattle.rules.specs.Packed.{bits_of}
 use Rattle.layout.proofs.Bytes.{bits_length}
 use Rattle.reading.proofs.Streams.{part_within, value_fields, field_up}
-use Rattle.reading.proofs.bits_from.Statement.{statement}
-use Rattle.reading.proofs.bits_from.Tie as tie
+use Rattle.reading.proofs.bits_from.Goals as goal
 
 shown : (b : List ℕ) (pos x : ℕ) → pos / 8 + 8 ≤ length b → x ≡ value (take 64 (drop (pos / 8 * 8) (bits_of b)))
     → take 57 (field 64 ((x * 2 ^ (pos % 8)) % 2 ^ 64)) ≡ take 57 (drop pos (bits_of b))
@@ -19,10 +18,6 @@ shown b pos x h e =
     ∙ part_within 57 (pos % 8) 64 (drop q bs) (omega arith)
     ∙ ap (take 57) (drop-drop (pos % 8) q bs ∙ ap (λ (k : ℕ). drop k bs) (let f : q + pos % 8 ≡ pos = omega arith in f))
 
-returns : tie.Need-returns
+pub returns : goal.returns
 returns c =
-    let g = c.before.args in
-    shown g.b.now g.pos c.eight.result (omega arith) c.eight.ensures
-
-pub bits_from_spec : {M : Type 1} → statement M
-bits_from_spec = tie.close (tie.spec (λ c κs. search needs) (λ c. search needs) returns)
+    shown c.args.b.now c.args.pos c.eight.result (omega arith) c.eight.ensures

@@ -1,7 +1,7 @@
 -- `reading::name_in` meets its contract: the words written are those of the strings read so far, and the reader of bits goes on from
 -- the same bit behind the same string. Assumes nothing.
 use Rattle.laws.proofs.Library.{◌≡◌, refl, sym, ap, ◌∙◌, Bool, true, false, not, ◌&&◌, List, [], ◌∷◌, ◌++◌, append_assoc, append-nil, map-append, none}
-use Rattle.laws.proofs.Library.{some, ℕ, suc, ◌+◌, ◌*◌, ◌-◌, ◌/◌, ◌^◌, ◌≤◌, ◌<◌, add-one, arith, needs, le-leb, lt-leb, leb-true, leb-false, not-true}
+use Rattle.laws.proofs.Library.{some, ℕ, suc, ◌+◌, ◌*◌, ◌-◌, ◌/◌, ◌^◌, ◌≤◌, ◌<◌, add-one, arith, le-leb, lt-leb, leb-true, leb-false, not-true}
 use Rattle.laws.proofs.Library.{not-false, leb, ltb, lit≤, length, take, drop, set, length-append, length-set, drop-drop, take-suc-set}
 use Rattle.rules.specs.Limits.{narrow}
 use Rattle.rules.specs.Strings.{Str, less, field, value, str_of, is_word}
@@ -16,8 +16,8 @@ use Rattle.reading.specs.declared.OneString.{OneString}
 use Rattle.reading.specs.Reading.{stream, are_words, StringAt, NameAt}
 use Rattle.layout.proofs.Sizes.{string_length}
 use Rattle.reading.proofs.Streams.{part_within, top_value, shows, room_is}
-use Rattle.reading.proofs.name_in.Statement.{statement}
-use Rattle.reading.proofs.name_in.Tie as tie
+use Rattle.reading.proofs.Sofar.{onward, Sofar}
+use Rattle.reading.proofs.name_in.Goals as goal
 
 -- ---- the ways of a reader of a name
 
@@ -30,10 +30,6 @@ counted : (bs : List Bool) (k : ℕ) → 4 ≤ length bs → k ≡ value (take 4
     → take_name narrow bs ≡ then_take (take_string narrow (drop 4 bs)) (λ s more. then_take (take_more narrow k s more) (λ n end. some (s ∷ n, end)))
 unfolding take_name take_number take_bits
 counted bs k h e = simp (le-leb 4 (length bs) h, sym e)
-
--- the strings read so far, and those that more strings add to them
-abbrev onward : Name → Taken Name → Taken Name
-onward n t = then_take t (λ m end. some (n ++ m, end))
 
 onward_cons : (n : Name) (t : Str) (r : Taken Name) → onward n (then_take r (λ m end. some (t ∷ m, end))) ≡ onward (n ++ (t ∷ [])) r
 onward_cons n t none = refl
@@ -78,12 +74,6 @@ module _ {b : List ℕ} {bits pos : ℕ} {r : OneString} (s : StringAt b bits po
   string_missing h = rw h at s.reads
 
 -- ---- the strings read so far
-
--- what the code holds, where k strings more are to come
-record Sofar (b : List ℕ) (bits pos k prior next count : ℕ) (ws : List ℕ) : Type 0 where
-  whole : is_word 24 prior ≡ true
-  words : are_words (take count ws) ≡ true
-  reads : take_name narrow (drop pos (stream bits b)) ≡ onward (strs (take count ws)) (take_more narrow k (str_of prior) (drop next (stream bits b)))
 
 module _ (b : List ℕ) (bits pos v k : ℕ) (r : OneString) (ek : k ≡ v / 2 ^ 60) (hv : v < 2 ^ 64) (hb : bits ≤ length b * 8)
     (e : take 57 (field 64 v) ≡ take 57 (drop pos (bits_of b))) (s : StringAt b bits (pos + 4) r) where
@@ -181,75 +171,46 @@ refused b bits pos ws h e = record { reads = e; whole = refl; few = omega arith;
 
 -- ---- the code
 
-abbrev invariant-loop : tie.invariant-loop
-invariant-loop b bits pos out₀ no_name more prior₀ next₀ count₀ out prior next count = (more ≤ 15) × (count ≤ more + 1) × (next ≤ bits) × (length out ≡ 16) × Sofar b bits pos (more + 1 - count) prior next count out
+pub returns-then-not-s : goal.returns-then-not-s
+returns-then-not-s c =
+    refused c.args.b.now c.args.bits c.args.pos c.args.out.now (omega arith)
+    (no_first c.args.b.now c.args.bits c.args.pos c.bits_from.result _ c.string_in-s.result refl (omega arith) (omega arith) c.bits_from.ensures
+    c.string_in-s.ensures (not-true _ c.if-not-s.true))
 
-abbrev decreases-loop : tie.decreases-loop
-decreases-loop b bits pos out₀ no_name more prior₀ next₀ count₀ out prior next count = more + 1 - count
+pub loop-count-init : goal.loop-count-init
+loop-count-init c = (
+  omega arith,
+  omega arith,
+  c.string_in-s.ensures.inside,
+  length-set c.args.out.now 0 c.string_in-s.result.word ∙ (let e : length c.args.out.now ≡ 16 = omega arith in e),
+  started c.args.b.now c.args.bits c.args.pos c.bits_from.result _ c.string_in-s.result refl (omega arith) (omega arith) c.bits_from.ensures
+      c.string_in-s.ensures _ c.args.out.now (omega arith) (omega arith) (not-false _ c.if-not-s.false),
+)
 
-returns : tie.Need-returns invariant-loop decreases-loop
+pub returns-then-not-t : goal.returns-then-not-t
+returns-then-not-t c =
+    let more = c.bits_from.result / 2 ^ 60 in
+    refused c.args.b.now c.args.bits c.args.pos c.loop-count.out c.loop-count.invariant.3
+    (stopped c.loop-count.invariant.4 (more - c.loop-count.count) c.string_in-t.result (omega arith) c.string_in-t.ensures (not-true _ c.if-not-t.true))
+
+pub returns-then-not-is_after : goal.returns-then-not-is_after
+returns-then-not-is_after c =
+    let more = c.bits_from.result / 2 ^ 60 in
+    refused c.args.b.now c.args.bits c.args.pos c.loop-count.out c.loop-count.invariant.3
+    (fallen c.loop-count.invariant.4 (more - c.loop-count.count) c.string_in-t.result (omega arith) c.string_in-t.ensures
+    (not-false _ c.if-not-t.false) (sym c.is_after.ensures ∙ c.if-not-is_after.true))
+
+pub loop-count-preserved : goal.loop-count-preserved
+loop-count-preserved c =
+    let k = c.loop-count.count in (
+      omega arith,
+      omega arith,
+      c.string_in-t.ensures.inside,
+      length-set c.loop-count.out k c.string_in-t.result.word ∙ c.loop-count.invariant.3,
+      stepped c.loop-count.invariant.4 _ c.string_in-t.result (omega arith) (omega arith) c.string_in-t.ensures
+          (not-false _ c.if-not-t.false) (sym c.is_after.ensures ∙ c.if-not-is_after.false),
+    )
+
+pub returns : goal.returns
 returns c =
-    let s = c.before.before in
-    let v = s.before in
-    let g = v.before.args in
-    refused g.b.now g.bits g.pos g.out.now (omega arith)
-    (no_first g.b.now g.bits g.pos v.bits-from.result _ s.string-in.result refl (omega arith) (omega arith) v.bits-from.ensures
-    s.string-in.ensures (not-true _ c.if1.true))
-
-loop-holds : tie.Need-loop-init invariant-loop decreases-loop
-loop-holds c =
-    let s = c.before.before in
-    let v = s.before in
-    let g = v.before.args in (
-      omega arith,
-      omega arith,
-      s.string-in.ensures.inside,
-      length-set g.out.now 0 s.string-in.result.word ∙ (let e : length g.out.now ≡ 16 = omega arith in e),
-      started g.b.now g.bits g.pos v.bits-from.result _ s.string-in.result refl (omega arith) (omega arith) v.bits-from.ensures
-          s.string-in.ensures _ g.out.now (omega arith) (omega arith) (not-false _ c.if1.false),
-    )
-
-returns-2 : tie.Need-returns-2 invariant-loop decreases-loop
-returns-2 c =
-    let t = c.before.before in
-    let l = t.before.before in
-    let g = l.before.before.before.before.before.args in
-    let more = l.before.before.before.before.bits-from.result / 2 ^ 60 in
-    refused g.b.now g.bits g.pos l.loop.out l.loop.invariant.3
-    (stopped l.loop.invariant.4 (more - l.loop.count) t.string-in2.result (omega arith) t.string-in2.ensures (not-true _ c.if2.true))
-
-returns-3 : tie.Need-returns-3 invariant-loop decreases-loop
-returns-3 c =
-    let a = c.before in
-    let t = a.before.before.before in
-    let l = t.before.before in
-    let g = l.before.before.before.before.before.args in
-    let more = l.before.before.before.before.bits-from.result / 2 ^ 60 in
-    refused g.b.now g.bits g.pos l.loop.out l.loop.invariant.3
-    (fallen l.loop.invariant.4 (more - l.loop.count) t.string-in2.result (omega arith) t.string-in2.ensures
-    (not-false _ a.before.if2.false) (sym a.is-after.ensures ∙ not-true _ c.if3.true))
-
-loop-again : tie.Need-loop-preserved invariant-loop decreases-loop
-loop-again c =
-    let a = c.before in
-    let t = a.before.before.before in
-    let l = t.before.before in
-    let g = l.before.before.before.before.before.args in
-    let k = l.loop.count in (
-      omega arith,
-      omega arith,
-      t.string-in2.ensures.inside,
-      length-set l.loop.out k t.string-in2.result.word ∙ l.loop.invariant.3,
-      stepped l.loop.invariant.4 _ t.string-in2.result (omega arith) (omega arith) t.string-in2.ensures
-          (not-false _ a.before.if2.false) (sym a.is-after.ensures ∙ not-false _ c.if3.false),
-    )
-
-returns-4 : tie.Need-returns-4 invariant-loop decreases-loop
-returns-4 c =
-    let l = c.before in
-    ended l.loop.invariant.4 (omega arith) (omega arith) (omega arith) l.loop.invariant.3
-
-pub name_in_spec : {M : Type 1} → statement M
-name_in_spec = tie.close (tie.spec invariant-loop decreases-loop (λ c κs. search needs) (λ c. search needs) (λ c κs. search needs) returns (λ c. search needs)
-    loop-holds (λ c κs. search needs) returns-2 (λ c κs. search needs) returns-3 (λ c. search needs) (λ c. search needs) (λ c. search needs)
-    (λ c. search needs) loop-again returns-4)
+    ended c.loop-count.invariant.4 (omega arith) (omega arith) (omega arith) c.loop-count.invariant.3

@@ -1,13 +1,12 @@
 -- `reading::is_filling` meets its contract: bits are all zero exactly when the number that they say is. Assumes nothing.
-use Rattle.laws.proofs.Library.{◌≡◌, refl, sym, ap, ◌∙◌, Bool, false, List, ℕ, ◌+◌, ◌*◌, ◌-◌, ◌/◌, ◌^◌, ◌≤◌, ◌<◌, arith, needs, le-ltb, eqb, length, take}
+use Rattle.laws.proofs.Library.{◌≡◌, refl, sym, ap, ◌∙◌, Bool, false, List, ℕ, ◌+◌, ◌*◌, ◌-◌, ◌/◌, ◌^◌, ◌≤◌, ◌<◌, arith, le-ltb, eqb, length, take}
 use Rattle.laws.proofs.Library.{drop, shr-shr, take_all}
 use Rattle.rules.specs.Strings.{field, value}
 use Rattle.rules.specs.Packed.{bits_of, is_filling}
 use Rattle.reading.specs.Reading.{stream}
 use Rattle.layout.proofs.Values.{filling_value}
 use Rattle.reading.proofs.Streams.{part_within, room_is, top_value, shows}
-use Rattle.reading.proofs.is_filling.Statement.{statement}
-use Rattle.reading.proofs.is_filling.Tie as tie
+use Rattle.reading.proofs.is_filling.Goals as goal
 
 -- of fewer bits than a byte has, the number says whether all are zero
 filling : (b : List ℕ) (bits pos v left : ℕ) → left ≡ bits - pos → pos ≤ bits → bits ≤ length b * 8 → left < 8 → v < 2 ^ 64
@@ -25,15 +24,10 @@ a_byte_or_more : (s : List Bool) → 8 ≤ length s → false ≡ is_filling s
 unfolding is_filling
 a_byte_or_more s h = simp (le-ltb (length s) 8 h)
 
-returns : tie.Need-returns
+pub returns-then-left-lt8 : goal.returns-then-left-lt8
+returns-then-left-lt8 c =
+    filling c.args.b.now c.args.bits c.args.pos c.bits_from.result _ refl (omega arith) (omega arith) (omega arith) (omega arith) c.bits_from.ensures
+
+pub returns : goal.returns
 returns c =
-    let g = c.before.before.args in
-    filling g.b.now g.bits g.pos c.bits-from.result _ refl (omega arith) (omega arith) (omega arith) (omega arith) c.bits-from.ensures
-
-returns-2 : tie.Need-returns-2
-returns-2 c =
-    let g = c.before.args in
-    a_byte_or_more (drop g.pos (stream g.bits g.b.now)) (omega (arith, room_is g.b.now g.bits g.pos (omega arith)))
-
-pub is_filling_spec : {M : Type 1} → statement M
-is_filling_spec = tie.close (tie.spec (λ c. search needs) (λ c κs. search needs) (λ c. search needs) (λ c. search needs) returns returns-2)
+    a_byte_or_more (drop c.args.pos (stream c.args.bits c.args.b.now)) (omega (arith, room_is c.args.b.now c.args.bits c.args.pos (omega arith)))

@@ -1,6 +1,6 @@
 -- `reading::is_lawful_read` meets its contract: of what makes a stamp lawful, two names that were read leave only the two questions that the
 -- code asks, and on words in rising order the walks answer them. Assumes nothing.
-use Rattle.laws.proofs.Library.{◌≡◌, refl, sym, ap, ap₂, ◌∙◌, Bool, true, false, not, ◌&&◌, List, ℕ, needs, lit≤}
+use Rattle.laws.proofs.Library.{◌≡◌, refl, sym, ap, ap₂, ◌∙◌, Bool, true, false, not, ◌&&◌, List, ℕ, lit≤}
 use Rattle.rules.specs.Limits.{narrow}
 use Rattle.rules.specs.Stamps.{is_none, pair, lawful}
 use Rattle.layout.proofs.Names.{named}
@@ -8,8 +8,7 @@ use Rattle.walks.specs.Walks.{strs, below_walk, has_twins}
 use Rattle.walks.proofs.Tells.{below_walk_lem, twins}
 use Rattle.layout.specs.Words.{stamp_of}
 use Rattle.reading.specs.Reading.{AreNames}
-use Rattle.reading.proofs.is_lawful_read.Statement.{statement}
-use Rattle.reading.proofs.is_lawful_read.Tie as tie
+use Rattle.reading.proofs.is_lawful_read.Goals as goal
 
 not_not : (b : Bool) → not (not b) ≡ b
 not_not true = refl
@@ -24,16 +23,11 @@ judged u i under alone n eb et =
     (et ∙ ap not (twins i (named narrow (strs i) n.id).rises) ∙ not_not (is_none (pair (strs i))))
     ∙ rw n.update (rw n.id refl)
 
-returns : tie.Need-returns
+pub returns-then-is_below : goal.returns-then-is_below
+returns-then-is_below c =
+    judged c.args.u.now c.args.i.now true (not c.has_twins.result) c.requires (sym c.if-is_below.true ∙ c.is_below.ensures)
+    (ap not c.has_twins.ensures)
+
+pub returns : goal.returns
 returns c =
-    let g = c.before.before.before.before.before in
-    judged g.args.u.now g.args.i.now true (not c.has-twins.result) g.requires (sym c.before.if1.true ∙ c.before.before.is_below.ensures)
-    (ap not c.has-twins.ensures)
-
-returns-2 : tie.Need-returns-2
-returns-2 c =
-    let g = c.before.before.before.before in
-    judged g.args.u.now g.args.i.now false _ g.requires (sym c.if1.false ∙ c.before.is_below.ensures) refl
-
-pub is_lawful_read_spec : {M : Type 1} → statement M
-is_lawful_read_spec = tie.close (tie.spec (λ c κs. search needs) (λ c κs. search needs) returns returns-2)
+    judged c.args.u.now c.args.i.now false _ c.requires (sym c.if-is_below.false ∙ c.is_below.ensures) refl

@@ -1,7 +1,7 @@
 -- `reading::string_in` meets its contract: the top five bits that are shown are the length, those behind them the digits, and each
 -- test of the code is the one that the reader of bits makes there. Assumes nothing.
 use Rattle.laws.proofs.Library.{◌≡◌, refl, sym, ap, ap₂, ◌∙◌, Bool, true, false, List, none, some, ℕ, ◌+◌, ◌*◌, ◌-◌, ◌/◌, ◌%◌, ◌^◌, ◌≤◌, ◌<◌, mod-lt, arith}
-use Rattle.laws.proofs.Library.{needs, le-leb, lt-leb, leb-true, leb-false, eq-eqb, leb, length, take, drop, length-drop, pow_pos, pow_mono, shr_lt}
+use Rattle.laws.proofs.Library.{le-leb, lt-leb, leb-true, leb-false, eq-eqb, leb, length, take, drop, length-drop, pow_pos, pow_mono, shr_lt}
 use Rattle.laws.proofs.Library.{length-take-le, drop-drop}
 use lib.Bits.{bit_and, and_le_l}
 use Rattle.rules.specs.Limits.{narrow}
@@ -13,8 +13,7 @@ use Rattle.strings.proofs.Ones.{above_is}
 use Rattle.reading.specs.Reading.{stream, StringAt}
 use Rattle.layout.proofs.Values.{join_lt}
 use Rattle.reading.proofs.Streams.{part_within, field_up, top_value, shows, room_is}
-use Rattle.reading.proofs.string_in.Statement.{statement}
-use Rattle.reading.proofs.string_in.Tie as tie
+use Rattle.reading.proofs.string_in.Goals as goal
 
 -- ---- the ways of the reader of bits
 
@@ -124,31 +123,24 @@ module _ (b : List ℕ) (bits pos v n : ℕ) (en : n ≡ v / 2 ^ 59) (hv : v < 2
         inside = omega arith;
       }
 
-returns : tie.Need-returns
-returns c =
-    let v = c.before in
-    let g = v.before.args in
-    refused g.b.now g.bits g.pos
-    (too_long_lem g.b.now g.bits g.pos v.bits-from.result _ refl (omega arith) (omega arith) v.bits-from.ensures (omega arith))
+pub returns-then-n-gt-DIGITS : goal.returns-then-n-gt-DIGITS
+returns-then-n-gt-DIGITS c =
+    refused c.args.b.now c.args.bits c.args.pos
+    (too_long_lem c.args.b.now c.args.bits c.args.pos c.bits_from-v.result _ refl (omega arith) (omega arith) c.bits_from-v.ensures (omega arith))
 
-returns-2 : tie.Need-returns-2
-returns-2 c =
-    let v = c.before.before in
-    let g = v.before.args in
-    refused g.b.now g.bits g.pos
-    (too_short g.b.now g.bits g.pos v.bits-from.result _ refl (omega arith) (omega arith) v.bits-from.ensures (omega arith) (omega arith))
+pub returns-then-bits-next : goal.returns-then-bits-next
+returns-then-bits-next c =
+    refused c.args.b.now c.args.bits c.args.pos
+    (too_short c.args.b.now c.args.bits c.args.pos c.bits_from-v.result _ refl (omega arith) (omega arith) c.bits_from-v.ensures (omega arith) (omega arith))
 
-add-t14 : tie.Need-overflow-add-t14
-add-t14 c =
-    let v = c.before.before.bits-from.result in
+pub overflow_add-result : goal.overflow_add-result
+overflow_add-result c =
+    let v = c.bits_from-v.result in
     record { fits = word_fits ((v * 32) % 2 ^ 64) (v / 2 ^ 59) (omega arith) (omega arith) }
 
-returns-3 : tie.Need-returns-3
-returns-3 c =
-    let v = c.before.before in
-    let g = v.before.args in
-    found g.b.now g.bits g.pos v.bits-from.result _ refl (omega arith) (omega arith) v.bits-from.ensures (omega arith) (omega arith)
+pub returns : goal.returns
+returns c =
+    found c.args.b.now c.args.bits c.args.pos c.bits_from-v.result _ refl (omega arith) (omega arith) c.bits_from-v.ensures (omega arith) (omega arith)
 
-pub string_in_spec : {M : Type 1} → statement M
-string_in_spec = tie.close (tie.spec (λ c κs. search needs) returns (λ c. search needs) (λ c. search needs) returns-2 (λ c. search needs)
-    (λ c. and_le_l _ _) add-t14 returns-3)
+pub overflow_sub-above : goal.overflow_sub-above
+overflow_sub-above c = and_le_l _ _

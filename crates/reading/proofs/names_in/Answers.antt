@@ -1,5 +1,5 @@
 -- `reading::names_in` meets its contract: each test of the code is the one that the reader of bits makes there. Assumes nothing.
-use Rattle.laws.proofs.Library.{◌≡◌, refl, sym, ap, ◌∙◌, Bool, true, false, cond, List, Option, none, some, ℕ, ◌*◌, ◌≤◌, ◌<◌, arith, needs, not-true}
+use Rattle.laws.proofs.Library.{◌≡◌, refl, sym, ap, ◌∙◌, Bool, true, false, cond, List, Option, none, some, ℕ, ◌*◌, ◌≤◌, ◌<◌, arith, rules, not-true}
 use Rattle.laws.proofs.Library.{not-false, lit≤, length, take, drop, replicate, length-append, length-drop, length-replicate, take_at}
 use Rattle.rules.specs.Limits.{narrow}
 use Rattle.rules.specs.Names.{Name, all}
@@ -14,8 +14,7 @@ use Rattle.reading.specs.Reading.{stream, NameAt, NamesIn}
 use Rattle.layout.proofs.Sizes.{names_length, name_most}
 use Rattle.layout.proofs.Values.{bytes_are}
 use Rattle.reading.proofs.Streams.{bits_take}
-use Rattle.reading.proofs.names_in.Statement.{statement}
-use Rattle.reading.proofs.names_in.Tie as tie
+use Rattle.reading.proofs.names_in.Goals as goal
 
 -- ---- the ways of a reader of a stamp
 
@@ -106,72 +105,43 @@ module _ (b p us is : List ℕ) (m n : OneName) (e : p ≡ over b (replicate 128
 
 -- ---- the code
 
-returns : tie.Need-returns
+pub returns-then-b-gt-BYTES : goal.returns-then-b-gt-BYTES
+returns-then-b-gt-BYTES c =
+    refused c.args.b.now c.args.u.now c.args.i.now (omega arith) (omega arith)
+    (too_long_lem c.args.b.now (bytes_are c.args.b.now (λ i. search rules)) (omega arith))
+
+pub name_in-m-requires : goal.name_in-m-requires
+name_in-m-requires c =
+    (omega arith, omega arith, ap length c.pad.ensures ∙ padded_length c.args.b.now (omega arith), c.requires.0)
+
+pub returns-then-not-m : goal.returns-then-not-m
+returns-then-not-m c =
+    refused c.args.b.now _ c.args.i.now c.name_in-m.ensures.room c.requires.1
+    (without_update c.args.b.now _ _ c.args.i.now c.name_in-m.result c.name_in-m.result c.pad.ensures c.name_in-m.ensures (not-true _ c.if-not-m.true))
+
+pub name_in-n-requires : goal.name_in-n-requires
+name_in-n-requires c =
+    (omega arith, c.name_in-m.ensures.inside, ap length c.pad.ensures ∙ padded_length c.args.b.now (omega arith), c.requires.1)
+
+pub returns-then-not-n : goal.returns-then-not-n
+returns-then-not-n c =
+    refused c.args.b.now _ _ c.name_in-m.ensures.room c.name_in-n.ensures.room
+    (without_id c.args.b.now _ _ _ c.name_in-m.result c.name_in-n.result c.pad.ensures c.name_in-m.ensures c.name_in-n.ensures
+    (not-false _ c.if-not-m.false) (not-true _ c.if-not-n.true))
+
+pub is_filling-requires : goal.is_filling-requires
+is_filling-requires c =
+    (omega arith, c.name_in-n.ensures.inside, ap length c.pad.ensures ∙ padded_length c.args.b.now (omega arith))
+
+pub returns-then-not-is_filling : goal.returns-then-not-is_filling
+returns-then-not-is_filling c =
+    refused c.args.b.now _ _ c.name_in-m.ensures.room c.name_in-n.ensures.room
+    (with_both c.args.b.now _ _ _ c.name_in-m.result c.name_in-n.result c.pad.ensures c.name_in-m.ensures c.name_in-n.ensures
+    (not-false _ c.if-not-m.false) false (not-false _ c.if-not-n.false)
+    (sym c.if-not-is_filling.true ∙ c.is_filling.ensures))
+
+pub returns : goal.returns
 returns c =
-    let g = c.before.before.args in
-    refused g.b.now g.u.now g.i.now (omega arith) (omega arith)
-    (too_long_lem g.b.now (bytes_are g.b.now (λ i. (c.before.shared-slice-known.given i).fits)) (omega arith))
-
-name-in-requires : tie.Need-name-in-requires
-name-in-requires c κs =
-    let p = c.before.before in
-    let g = p.before.before.before.before in
-    (omega arith, omega arith, ap length p.pad.ensures ∙ padded_length g.args.b.now (omega arith), g.requires.0)
-
-returns-2 : tie.Need-returns-2
-returns-2 c =
-    let m = c.before.before in
-    let p = m.before.before.before in
-    let g = p.before.before.before.before in
-    refused g.args.b.now _ g.args.i.now m.name_in.ensures.room g.requires.1
-    (without_update g.args.b.now _ _ g.args.i.now m.name_in.result m.name_in.result p.pad.ensures m.name_in.ensures (not-true _ c.if2.true))
-
-name-in-requires-2 : tie.Need-name-in-requires-2
-name-in-requires-2 c κs =
-    let m = c.before.before.before.before in
-    let p = m.before.before.before in
-    let g = p.before.before.before.before in
-    (omega arith, m.name_in.ensures.inside, ap length p.pad.ensures ∙ padded_length g.args.b.now (omega arith), g.requires.1)
-
-returns-3 : tie.Need-returns-3
-returns-3 c =
-    let n = c.before.before in
-    let m = n.before.before.before.before.before in
-    let p = m.before.before.before in
-    let g = p.before.before.before.before in
-    refused g.args.b.now _ _ m.name_in.ensures.room n.name-in2.ensures.room
-    (without_id g.args.b.now _ _ _ m.name_in.result n.name-in2.result p.pad.ensures m.name_in.ensures n.name-in2.ensures
-    (not-false _ n.before.before.before.if2.false) (not-true _ c.if3.true))
-
-is-filling-requires : tie.Need-is-filling-requires
-is-filling-requires c κs =
-    let n = c.before.before.before in
-    let m = n.before.before.before.before.before in
-    let p = m.before.before.before in
-    let g = p.before.before.before.before in
-    (omega arith, n.name-in2.ensures.inside, ap length p.pad.ensures ∙ padded_length g.args.b.now (omega arith))
-
-returns-4 : tie.Need-returns-4
-returns-4 c =
-    let n = c.before.before.before.before.before in
-    let m = n.before.before.before.before.before in
-    let p = m.before.before.before in
-    let g = p.before.before.before.before in
-    refused g.args.b.now _ _ m.name_in.ensures.room n.name-in2.ensures.room
-    (with_both g.args.b.now _ _ _ m.name_in.result n.name-in2.result p.pad.ensures m.name_in.ensures n.name-in2.ensures
-    (not-false _ n.before.before.before.if2.false) false (not-false _ c.before.before.before.if3.false)
-    (sym (not-true _ c.if4.true) ∙ c.before.is-filling.ensures))
-
-returns-5 : tie.Need-returns-5
-returns-5 c =
-    let n = c.before.before.before.before.before in
-    let m = n.before.before.before.before.before in
-    let p = m.before.before.before in
-    let g = p.before.before.before.before in
-    read_both g.args.b.now _ _ _ m.name_in.result n.name-in2.result p.pad.ensures m.name_in.ensures n.name-in2.ensures
-    (not-false _ n.before.before.before.if2.false) (not-false _ c.before.before.before.if3.false)
-    (sym (not-false _ c.if4.false) ∙ c.before.is-filling.ensures)
-
-pub names_in_spec : {M : Type 1} → statement M
-names_in_spec = tie.close (tie.spec returns (λ c. search needs) (λ c κs. search needs) name-in-requires returns-2 name-in-requires-2 returns-3
-    is-filling-requires returns-4 returns-5)
+    read_both c.args.b.now _ _ _ c.name_in-m.result c.name_in-n.result c.pad.ensures c.name_in-m.ensures c.name_in-n.ensures
+    (not-false _ c.if-not-m.false) (not-false _ c.if-not-n.false)
+    (sym c.if-not-is_filling.false ∙ c.is_filling.ensures)

@@ -1,6 +1,6 @@
 -- `reading::read_in` meets its contract: the words that were read are those of the stamp that the bytes pack, and both names are names by the
 -- way they were read, so that the two questions that are left decide whether it is lawful. Assumes nothing.
-use Rattle.laws.proofs.Library.{◌≡◌, refl, sym, ap, ap₂, ◌∙◌, true, false, List, [], ◌∷◌, map, some, ℕ, ◌-◌, arith, needs, not-true, not-false, lit≤}
+use Rattle.laws.proofs.Library.{◌≡◌, refl, sym, ap, ap₂, ◌∙◌, true, false, List, [], ◌∷◌, map, some, ℕ, ◌-◌, arith, not-true, not-false, lit≤}
 use Rattle.laws.proofs.Library.{length, take, replicate, length-map, length-take-le, take_at}
 use Rattle.rules.specs.Limits.{narrow}
 use Rattle.rules.specs.Strings.{word_of, str_of, is_word}
@@ -21,8 +21,7 @@ use Rattle.reading.specs.declared.Counts.{Counts}
 use Rattle.reading.specs.declared.TwoNames.{TwoNames}
 use Rattle.layout.specs.Words.{stamp_of}
 use Rattle.reading.specs.Reading.{counts_of, lent_to, are_words, AreNames, NamesIn}
-use Rattle.reading.proofs.read_in.Statement.{statement}
-use Rattle.reading.proofs.read_in.Tie as tie
+use Rattle.reading.proofs.read_in.Goals as goal
 
 -- ---- words and their strings
 
@@ -97,66 +96,54 @@ module _ {b : List ℕ} {r : TwoNames} {us is : List ℕ} (n : NamesIn b r us is
 
 -- ---- the code
 
-returns : tie.Need-returns
+pub returns-then-not-names : goal.returns-then-not-names
+returns-then-not-names c =
+    refused c.args.b.now Malformed c.unread.result c.args.update.now c.args.id.now c.unread.ensures
+    (malformed c.names_in-names.ensures (not-true _ c.if-not-names.true))
+
+pub slice_bounds-u-end : goal.slice_bounds-u-end
+slice_bounds-u-end c = let n = c.names_in-names.ensures in omega (arith, n.update_few, n.update_room)
+
+pub slice_bounds-is_lawful_read-end : goal.slice_bounds-is_lawful_read-end
+slice_bounds-is_lawful_read-end c = (part_length c.names_in-names.ensures).0
+
+pub slice_bounds-i-end : goal.slice_bounds-i-end
+slice_bounds-i-end c = let n = c.names_in-names.ensures in omega (arith, n.id_few, n.id_room)
+
+pub slice_bounds-is_lawful_read-end-2 : goal.slice_bounds-is_lawful_read-end-2
+slice_bounds-is_lawful_read-end-2 c = (part_length c.names_in-names.ensures).1
+
+pub is_lawful_read-requires : goal.is_lawful_read-requires
+is_lawful_read-requires c = are_names c.names_in-names.ensures (not-false _ c.if-not-names.false)
+
+pub returns-then-not-is_lawful_read : goal.returns-then-not-is_lawful_read
+returns-then-not-is_lawful_read c =
+    refused c.args.b.now Unlawful c.unread-then-not-is_lawful_read.result c.args.update.now c.args.id.now c.unread-then-not-is_lawful_read.ensures
+    (unlawful c.names_in-names.ensures (not-false _ c.if-not-names.false)
+    (sym c.is_lawful_read.ensures ∙ c.if-not-is_lawful_read.true))
+
+pub slice_bounds-u-end-2 : goal.slice_bounds-u-end-2
+slice_bounds-u-end-2 c = let n = c.names_in-names.ensures in omega (arith, n.update_few, n.update_room)
+
+pub slice_bounds-lend-end : goal.slice_bounds-lend-end
+slice_bounds-lend-end c = (part_length c.names_in-names.ensures).0
+
+pub lend-requires : goal.lend-requires
+lend-requires c = let n = c.names_in-names.ensures in omega (arith, (part_length n).0, n.update_few)
+
+pub slice_bounds-i-end-2 : goal.slice_bounds-i-end-2
+slice_bounds-i-end-2 c = let n = c.names_in-names.ensures in omega (arith, n.id_few, n.id_room)
+
+pub slice_bounds-lend-end-3 : goal.slice_bounds-lend-end-3
+slice_bounds-lend-end-3 c = (part_length c.names_in-names.ensures).1
+
+pub lend-requires-2 : goal.lend-requires-2
+lend-requires-2 c = let n = c.names_in-names.ensures in omega (arith, (part_length n).1, n.id_few)
+
+pub returns : goal.returns
 returns c =
-    let n = c.before.before.before in
-    let g = n.before.before.before.before.args in
-    refused g.b.now Malformed c.unread.result g.update.now g.id.now c.unread.ensures
-    (malformed n.names_in.ensures (not-true _ c.before.if1.true))
-
-array-share-prefix-u : tie.Need-array-share-prefix-u
-array-share-prefix-u c = let n = c.before.before.names_in.ensures in omega (arith, n.update_few, n.update_room)
-
-slice-aggregate-is-lawful-read : tie.Need-slice-aggregate-is-lawful-read
-slice-aggregate-is-lawful-read c = (part_length c.before.before.before.names_in.ensures).0
-
-array-share-prefix-i : tie.Need-array-share-prefix-i
-array-share-prefix-i c = let n = c.before.before.before.names_in.ensures in omega (arith, n.id_few, n.id_room)
-
-slice-aggregate-is-lawful-read-2 : tie.Need-slice-aggregate-is-lawful-read-2
-slice-aggregate-is-lawful-read-2 c = (part_length c.before.before.before.before.names_in.ensures).1
-
-is-lawful-read-requires : tie.Need-is-lawful-read-requires
-is-lawful-read-requires c κs = are_names c.before.before.before.before.names_in.ensures (not-false _ c.before.before.if1.false)
-
-returns-2 : tie.Need-returns-2
-returns-2 c =
-    let n = c.before.before.before.before.before.before.before in
-    let g = n.before.before.before.before.args in
-    refused g.b.now Unlawful c.unread2.result g.update.now g.id.now c.unread2.ensures
-    (unlawful n.names_in.ensures (not-false _ c.before.before.before.before.before.if1.false)
-    (sym c.before.before.is-lawful-read.ensures ∙ not-true _ c.before.if2.true))
-
-array-share-prefix-u-2 : tie.Need-array-share-prefix-u-2
-array-share-prefix-u-2 c = let n = c.before.before.before.before.before.before.names_in.ensures in omega (arith, n.update_few, n.update_room)
-
-slice-aggregate-lend : tie.Need-slice-aggregate-lend
-slice-aggregate-lend c = (part_length c.before.before.before.before.before.before.before.names_in.ensures).0
-
-lend-requires : tie.Need-lend-requires
-lend-requires c κs = let n = c.before.before.before.before.before.before.before.before.names_in.ensures in omega (arith, (part_length n).0, n.update_few)
-
-array-share-prefix-i-2 : tie.Need-array-share-prefix-i-2
-array-share-prefix-i-2 c = let n = c.before.before.before.before.before.before.before.before.before.names_in.ensures in omega (arith, n.id_few, n.id_room)
-
-slice-aggregate-lend-2 : tie.Need-slice-aggregate-lend-2
-slice-aggregate-lend-2 c = (part_length c.before.before.before.before.before.before.before.before.before.before.names_in.ensures).1
-
-lend-requires-2 : tie.Need-lend-requires-2
-lend-requires-2 c κs = let n = c.before.before.before.before.before.before.before.before.before.before.before.names_in.ensures in omega (arith, (part_length n).1, n.id_few)
-
-returns-3 : tie.Need-returns-3
-returns-3 c =
-    let n = c.before.before.before.before.before.before.before.before.before.before.before.before in
-    let g = n.before.before.before.before.args in
-    let l = c.before.before.before.before.before.before in
-    let e = lawful_read n.names_in.ensures (not-false _ c.before.before.before.before.before.before.before.before.before.before.if1.false) (sym l.before.is-lawful-read.ensures ∙ not-false _ l.if2.false) in (
-      counts_are n.names_in.ensures e,
-      c.before.before.before.lend.ensures ∙ update_is n.names_in.ensures e g.update.now,
-      c.lend2.ensures ∙ id_is n.names_in.ensures e g.id.now,
+    let e = lawful_read c.names_in-names.ensures (not-false _ c.if-not-names.false) (sym c.is_lawful_read.ensures ∙ c.if-not-is_lawful_read.false) in (
+      counts_are c.names_in-names.ensures e,
+      c.lend.ensures ∙ update_is c.names_in-names.ensures e c.args.update.now,
+      c.lend-2.ensures ∙ id_is c.names_in-names.ensures e c.args.id.now,
     )
-
-pub read_in_spec : {M : Type 1} → statement M
-read_in_spec = tie.close (tie.spec (λ c κs. search needs) (λ c κs. search needs) returns array-share-prefix-u slice-aggregate-is-lawful-read
-    array-share-prefix-i slice-aggregate-is-lawful-read-2 is-lawful-read-requires (λ c κs. search needs) returns-2 array-share-prefix-u-2
-    slice-aggregate-lend lend-requires array-share-prefix-i-2 slice-aggregate-lend-2 lend-requires-2 returns-3)
