@@ -1,5 +1,6 @@
 // The answers as numbers, for callers that take numbers alone: what was written, a verdict, or 1,000 plus a refusal's number.
 #![tactic(auto)]
+
 ghost use Rattle.std.specs.Prelude.{◌≡◌, ℕ, ◌+◌};
 ghost use Rattle.rules.specs.Refusals.{number};
 ghost use Rattle.rules.specs.Values.{compared_of};
