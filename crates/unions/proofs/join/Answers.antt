@@ -1,14 +1,14 @@
 -- `unions::join` meets its contract: where both buffers have room its four parts, one after the other, are the definition, since none of them leaves
 -- more words than it is given. Assumes nothing.
-use Rattle.laws.proofs.Library.{◌≡◌, refl, ap, ap₂, ◌∙◌, true, false, and-false, List, ◌⊎◌, inl, inr, ⊎_elim, ℕ, ◌+◌, ◌≤◌, ◌<◌, arith, needs, le-leb}
-use Rattle.laws.proofs.Library.{lt-leb, ltb-true, ltb-false, leb, length, take, drop, take_at, length-take-le}
+use Rattle.laws.proofs.Library.{◌≡◌, refl, ap, ap₂, ◌∙◌, true, false, and-false, List, ◌⊎◌, inl, inr, ℕ, ◌+◌, ◌≤◌, ◌<◌, arith, le-leb}
+use Rattle.laws.proofs.Library.{lt-leb, leb, length, take, drop, take_at, length-take-le}
 use Rattle.rules.specs.Packed.{over}
 use Rattle.laws.proofs.Tests.{and_both}
 use Rattle.unions.specs.Unions.{cleared, merge, reduced, lifted, joined_id, joined_update, can_join, joined_counts, joined_update_in, joined_id_in}
 use Rattle.unions.proofs.Counts.{merge_few, reduced_few, lifted_few}
 use Rattle.unions.proofs.Buffers.{cleared_length, over_over, cleared_front}
-use Rattle.unions.proofs.join.Statement.{statement}
-use Rattle.unions.proofs.join.Tie as tie
+use Rattle.unions.proofs.join.Goals as goal
+use Rattle.unions.proofs.join.Goals.{then-update-u-via-then-update-u, then-update-u-via-else-update-u+then-id-i}
 
 -- what is left of the words w that stand at the front of a buffer, written in their place
 module _ (out w f after : List ℕ) (n : ℕ) (count : n ≡ length w) (here : f ≡ over w out) where
@@ -61,72 +61,41 @@ module _ (u i v j update id : List ℕ) where
       no (inl e) = rw (lt-leb (length u + length v) (length update) e)
       no (inr e) = rw (lt-leb (length i + length j) (length id) e) (and-false (leb (length u + length v) (length update)))
 
--- both have room
-module _ (c : tie.Else2) where
-  abbrev start : tie.Start
-  start = c.before.before.before.before.before.before.before.before
+-- a union of the words of two names that a buffer has room for, and its reduction: neither is longer than the buffer
+united_room : (m n out left : List ℕ) (k : ℕ) → length m + length n ≤ length out → k ≡ length (merge m n) → length left ≡ length out → k ≤ length left
+united_room m n out left k room count same = omega (arith, merge_few m n)
 
-  update_room_lem : length start.args.u.now + length start.args.v.now ≤ length start.args.update.now
-  update_room_lem = c.before.if1.false
+reduced_room : (l left : List ℕ) (n k : ℕ) → n ≤ length l → k ≡ length (reduced (take n l)) → length left ≡ length l → k ≤ length left
+reduced_room l left n k room count same = omega (arith, reduced_few (take n l), length-take-le n l room)
 
-  id_room_lem : length start.args.i.now + length start.args.j.now ≤ length start.args.id.now
-  id_room_lem = ltb-false _ _ c.if2.false
+pub returns-then-update-u : goal.returns-then-update-u
+returns-then-update-u c =
+    none c.args.u.now c.args.i.now c.args.v.now c.args.j.now c.args.update.now c.args.id.now
+    (elim c.then-update-u.branch [ then-update-u-via-then-update-u w ↦ inl w.if-update-u.true | then-update-u-via-else-update-u+then-id-i w ↦ inr w.if-id-i.true ])
 
-module _ (c : tie.After-unite) where
-  united_room : c.unite.result ≤ length c.unite.new.1.1.0
-  united_room =
-      let g = start c.before.before in
-      omega (arith, c.unite.ensures.0, c.unite.auto.1.1.0, merge_few g.args.i.now g.args.j.now, id_room_lem c.before.before)
+pub reduce-k-requires : goal.reduce-k-requires
+reduce-k-requires c = united_room c.args.i.now c.args.j.now c.args.id.now _ _ c.if-id-i.false c.unite-n.ensures.0 c.unite-n.auto.out
 
-module _ (c : tie.After-reduce) where
-  abbrev ids : tie.After-unite
-  ids = c.before.before.before.before
+pub slice_bounds-lift-end : goal.slice_bounds-lift-end
+slice_bounds-lift-end c =
+    reduced_room c.unite-n.new.out _ c.unite-n.result _
+    (united_room c.args.i.now c.args.j.now c.args.id.now _ _ c.if-id-i.false c.unite-n.ensures.0 c.unite-n.auto.out) c.reduce-k.ensures.0 c.reduce-k.auto.id
 
-  reduced_left : c.reduce.result ≤ length c.reduce.new.0
-  reduced_left =
-      let n = ids.unite.result in
-      let l = ids.unite.last.1.1.0 in
-      omega (arith, c.reduce.ensures.0, c.reduce.auto.0, reduced_few (take n l), length-take-le n l (united_room ids), united_room ids)
+pub slice_bounds-lift-end-2 : goal.slice_bounds-lift-end-2
+slice_bounds-lift-end-2 c =
+    omega (
+      arith,
+      length-take-le c.reduce-k.result c.reduce-k.new.id (reduced_room c.unite-n.new.out _ c.unite-n.result _
+          (united_room c.args.i.now c.args.j.now c.args.id.now _ _ c.if-id-i.false c.unite-n.ensures.0 c.unite-n.auto.out) c.reduce-k.ensures.0 c.reduce-k.auto.id),
+    )
 
-module _ (c : tie.After-unite2) where
-  updates_room : c.unite2.result ≤ length c.unite2.new.1.1.0
-  updates_room =
-      let e = (ids c.before.before.before.before).before.before in
-      let g = start e in
-      omega (arith, c.unite2.ensures.0, c.unite2.auto.1.1.0, merge_few g.args.u.now g.args.v.now, update_room_lem e)
+pub lift-c-requires : goal.lift-c-requires
+lift-c-requires c = united_room c.args.u.now c.args.v.now c.args.update.now _ _ c.if-update-u.false c.unite-m.ensures.0 c.unite-m.auto.out
 
-returns : tie.Need-returns
+pub returns : goal.returns
 returns c =
-    let g = c.before.before.before.before.before.before.before.args in
-    none g.u.now g.i.now g.v.now g.j.now g.update.now g.id.now
-    (⊎_elim (λ h. inl h.taken) (λ h. inr (ltb-true _ _ h.1.taken)) c.if1.branch)
-
-unite-requires-2 : tie.Need-unite-requires-2
-unite-requires-2 c κs = update_room_lem (ids c.before.before.before).before.before
-
-slice-reshare-prefix-lift : tie.Need-slice-reshare-prefix-lift
-slice-reshare-prefix-lift c = omega (arith, reduced_left c.before.before.before.before.before.before)
-
-slice-aggregate-lift : tie.Need-slice-aggregate-lift
-slice-aggregate-lift c =
-    let r = c.before.before.before.before.before.before.before in
-    omega (arith, length-take-le r.reduce.result r.reduce.new.0 (reduced_left r))
-
-returns-2 : tie.Need-returns-2
-returns-2 c =
-    let l = c.before.before in
-    let p = l.before.before.before.before.before in
-    let r = p.before.before.before.before in
-    let n = r.before.before.before.before in
-    let e = n.before.before in
-    let g = (start e).args in
-    parts g.u.now g.i.now g.v.now g.j.now g.update.now g.id.now n.unite.new.1.1.0 r.reduce.new.0 p.unite2.new.1.1.0
-    l.lift.new.1.0 n.unite.result r.reduce.result p.unite2.result l.lift.result
-    (and_both (le-leb _ _ (update_room_lem e)) (le-leb _ _ (id_room_lem e)))
-    n.unite.ensures.0 n.unite.ensures.1 r.reduce.ensures.0 r.reduce.ensures.1
-    p.unite2.ensures.0 p.unite2.ensures.1 l.lift.ensures.0 l.lift.ensures.1
-
-pub join_spec : {M : Type 1} → statement M
-join_spec = tie.close (tie.spec (λ c. search needs) (λ c. search needs) returns (λ c κs. id_room_lem c.before)
-    (λ c κs. united_room c.before.before.before) unite-requires-2 slice-reshare-prefix-lift slice-aggregate-lift
-    (λ c κs. updates_room c.before.before.before.before) (λ c. search needs) (λ c. search needs) returns-2)
+    parts c.args.u.now c.args.i.now c.args.v.now c.args.j.now c.args.update.now c.args.id.now c.unite-n.new.out c.reduce-k.new.id c.unite-m.new.out
+    c.lift-c.new.u c.unite-n.result c.reduce-k.result c.unite-m.result c.lift-c.result
+    (and_both (le-leb _ _ c.if-update-u.false) (le-leb _ _ c.if-id-i.false))
+    c.unite-n.ensures.0 c.unite-n.ensures.1 c.reduce-k.ensures.0 c.reduce-k.ensures.1
+    c.unite-m.ensures.0 c.unite-m.ensures.1 c.lift-c.ensures.0 c.lift-c.ensures.1
