@@ -3,5 +3,3 @@ pub mod Passes
 pub mod Tied
 pub mod Asks
 pub mod Unique
-pub mod Slots
-pub mod Pair

@@ -1,5 +1,5 @@
 -- A gate that asks about numbers, and a rule that keeps the records on a refusal, do what the rules of the table say. Assumes nothing.
-use Rattle.laws.proofs.Library.{◌≡◌, refl, sym, ap, subst, ◌∙◌, Bool, true, false, cond, ◌||◌, [], ◌∷◌, ℕ, ◌≤◌, ◌<◌, arith, eq-eqb, eqb-true, eqb-false}
+use Rattle.laws.proofs.Library.{◌≡◌, refl, sym, ap, subst, ◌∙◌, Bool, true, false, cond, ◌||◌, [], ◌∷◌, ℕ, ◌≤◌, ◌<◌, arith, eq-eqb, ne_eqb, eqb-true, eqb-false}
 use Rattle.laws.proofs.Library.{leb-true, leb-false, ltb-false, not-false, eqb, leb, ltb, lit≤, length, set, set-get_or}
 use Rattle.laws.proofs.Below.{below_refl}
 use Rattle.laws.proofs.Tests.{clash}
@@ -62,6 +62,27 @@ few n e = by (eqb n 0) (ltb records n) refl refl e
     by true q hp hq e = absurd (clash refl e)
     by false true hp hq e = absurd (clash refl e)
     by false false hp hq e = ltb-false records n hq
+
+-- and below the most records that a table has
+pub gate_few : (n a b : ℕ) → gate_code n a b ≡ 0 → (a < n) × (b < n) × (a < 32) × (b < 32)
+gate_few n a b e = by (gates n a b)
+  where
+    by : Gate n a b → (a < n) × (b < n) × (a < 32) × (b < 32)
+    by (size p c) = absurd (omega arith)
+    by (out_a p q c) = absurd (omega arith)
+    by (out_b p q r c) = absurd (omega arith)
+    by (past p q r c) = let h = few n p in let x = leb-false n a q in let y = leb-false n b r in (x, y, omega arith, omega arith)
+
+-- so it is where the code's answer of the gate says so
+pub gate_bounds : (n a b g : ℕ) → g ≡ gate_code n a b → g ≡ 0 → (a < n) × (b < n) × (a < 32) × (b < 32)
+gate_bounds n a b g e z = gate_few n a b (sym e ∙ z)
+
+-- the gate's answer and the rule's, as the table's functions take them
+pub past_gate : {A : Type 0} (g : ℕ) (x y : A) → g ≡ 0 → cond (eqb g 0) x y ≡ x
+past_gate g x y e = simp (eq-eqb g 0 e)
+
+pub at_gate : {A : Type 0} (g : ℕ) (x y : A) → (g ≡ 0 → ⊥) → cond (eqb g 0) x y ≡ y
+at_gate g x y e = simp (ne_eqb g 0 e)
 
 -- ---- rules that keep
 

@@ -2,6 +2,7 @@
 // records by value to a rule that is total, and stores what the rule gives back; a refusing rule gives back what it got.
 // Answers are numbers, as slot_number and spared_number of the rules say: a refusal is 1,000 plus its number. A comparison is the standing itself.
 #![tactic(auto)]
+
 ghost use Rattle.std.specs.Prelude.{◌≡◌};
 ghost use Rattle.rules.specs.Limits.{narrow};
 ghost use Rattle.rules.specs.Tables.{slot_number, spared_number, make_fresh, update_at, fork_at, join_at, standing_at, spare_at};
