@@ -1,5 +1,6 @@
 // Join of two stamps by value: the unions of both names and reduction in buffers of twice the room, and only then the limit.
 #![tactic(auto)]
+
 ghost use Rattle.std.specs.Prelude.{◌≡◌, true, [], ◌∷◌, ◌≤◌, length, take};
 ghost use Rattle.rules.specs.Limits.{narrow};
 ghost use Rattle.rules.specs.Stamps.{join};

@@ -1,6 +1,6 @@
 -- `joins::join` meets its contract: what the two are refused for comes first, and two that may meet are lawful, so they are merged.
 -- Assumes nothing.
-use Rattle.laws.proofs.Library.{◌≡◌, refl, sym, ◌∙◌, Bool, true, false, cond, [], ◌∷◌, needs}
+use Rattle.laws.proofs.Library.{◌≡◌, refl, sym, ◌∙◌, Bool, true, false, cond, [], ◌∷◌}
 use Rattle.rules.specs.Limits.{narrow}
 use Rattle.rules.specs.Stamps.{Stamp, join}
 use Rattle.rules.specs.Stored.{held, is_stored, unlawful}
@@ -12,8 +12,7 @@ use Rattle.rules.specs.declared.Answer.{Answer}
 use Rattle.rules.specs.declared.Answer.TheVariants.{Done, Refused}
 use Rattle.laws.proofs.Stored.{lawful_stored}
 use Rattle.stamps.proofs.Laws.{refusal_not_done, joined_then}
-use Rattle.joins.proofs.join.Statement.{statement}
-use Rattle.joins.proofs.join.Tie as tie
+use Rattle.joins.proofs.join.Goals as goal
 
 module _ (a b : Record) where
   -- two that may meet are lawful
@@ -31,20 +30,11 @@ module _ (a b : Record) where
       given narrow (and_then m (first ((many narrow j, Many) ∷ []))) j ≡ joined narrow a b)
   told e = sym (joined_then narrow a b ∙ rw e)
 
-merged-requires : tie.Need-merged-requires
-merged-requires c κs =
-    let m = c.before.before in
-    met _ _ (sym m.meet.ensures ∙ c.enum_told.given.1)
+pub merged-requires : goal.merged-requires
+merged-requires c = met _ _ (sym c.meet-m.ensures ∙ c.in-Done.is)
 
-returns : tie.Need-returns
-returns c =
-    let m = c.before.before.before.before in
-    c.refused.ensures ∙ told _ _ (sym m.meet.ensures ∙ c.before.before.m.given.1)
+pub returns-in-Refused : goal.returns-in-Refused
+returns-in-Refused c = c.refused.ensures ∙ told _ _ (sym c.meet-m.ensures ∙ c.in-Refused.is)
 
-returns-2 : tie.Need-returns-2
-returns-2 c =
-    let m = c.before.before.before in
-    c.merged.ensures ∙ told _ _ (sym m.meet.ensures ∙ c.before.enum_told.given.1)
-
-pub join_spec : {M : Type 1} → statement M
-join_spec = tie.close (tie.spec (λ c κs. search needs) (λ c. search needs) (λ c κs. search needs) (λ c. search needs) merged-requires returns returns-2)
+pub returns-in-Done : goal.returns-in-Done
+returns-in-Done c = c.merged.ensures ∙ told _ _ (sym c.meet-m.ensures ∙ c.in-Done.is)
