@@ -1,5 +1,6 @@
 // Writing two names in lent words as a packed stamp, lawful or not: behind what is written, into the buffer itself.
 #![tactic(auto)]
+
 ghost use Rattle.std.specs.Prelude.{◌≡◌, true, cond, ◌++◌, map, ◌≤◌, ◌<◌, ◌+◌, ◌^◌, ◌%◌, length, take, drop};
 ghost use Rattle.rules.specs.Limits.{narrow};
 ghost use Rattle.rules.specs.Strings.{field, str_of};

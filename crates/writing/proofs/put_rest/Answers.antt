@@ -1,7 +1,7 @@
 -- `writing::put_rest` meets its contract: what is held stands at the top of the word with zeros behind it, and what is written says the same
 -- while bytes go out from there; bytes whose bits are these and a filling are the bits packed. Assumes nothing.
 use Rattle.laws.proofs.Library.{◌≡◌, refl, sym, ap, ap₂, ◌∙◌, Bool, true, List, [], ◌∷◌, ◌++◌, append_assoc, append-nil, ℕ, zero, suc, ◌+◌, ◌*◌, ◌-◌, ◌/◌}
-use Rattle.laws.proofs.Library.{◌%◌, ◌^◌, ◌≤◌, ◌<◌, add-zero, zero-mul, zero-div, arith, needs, lt-ltb, eq-eqb, ltb, pow_pos, length, take, drop, set}
+use Rattle.laws.proofs.Library.{◌%◌, ◌^◌, ◌≤◌, ◌<◌, add-zero, zero-mul, zero-div, arith, lt-ltb, eq-eqb, ltb, pow_pos, length, take, drop, set}
 use Rattle.laws.proofs.Library.{length-set, take-append-drop, take-append-le, take-append-add, drop-drop, drop-set-lt, length-take-le}
 use Rattle.rules.specs.Strings.{field, value}
 use Rattle.rules.specs.Names.{all}
@@ -14,8 +14,9 @@ use Rattle.writing.specs.Cursors.{written}
 use Rattle.writing.specs.declared.Pen.{Pen}
 use Rattle.layout.proofs.Values.{field_join, filling_value}
 use Rattle.writing.proofs.Writing.{push_bits, byte_put}
-use Rattle.writing.proofs.put_rest.Statement.{statement}
-use Rattle.writing.proofs.put_rest.Tie as tie
+use Rattle.std.proofs.Common.{rules}
+use Rattle.writing.proofs.put_rest.Invariants.{Same}
+use Rattle.writing.proofs.put_rest.Goals as goal
 
 -- ---- the word
 
@@ -48,13 +49,6 @@ raised a h l =
     ∙ ap (λ (s : List Bool). field h a ++ s) (sym (field_join 24 k 0 0 (pow_pos k)) ∙ ap₂ field (let e : 24 + k ≡ 64 - h = omega arith in e) (add-zero (0 * 2 ^ k) ∙ zero-mul (2 ^ k)))
 
 -- ---- the loop
-
--- all is what was written and held at first
-record Same (all : List Bool) (l₀ : List ℕ) (end : ℕ) (l : List ℕ) (at rest : ℕ) : Type 0 where
-  bits : bits_of (take at l) ++ take ((end - at) * 8) (field 64 rest) ≡ all
-  kept : drop at l ≡ drop at l₀
-  bytes : are_bytes l ≡ true
-  long : length l ≡ length l₀
 
 filling_field : (k : ℕ) → k < 8 → is_filling (field k 0) ≡ true
 filling_field k h =
@@ -120,44 +114,29 @@ whole p l m end at rest n few least most inside ended s =
     let long : length (pack_bits bs) ≡ at = ap length is ∙ length-take-le at m inside in
     sym (take-append-drop at m) ∙ ap₂ (λ (x y : List ℕ). x ++ y) (sym is) (s.kept ∙ ap (λ (j : ℕ). drop j l) (sym long))
 
-abbrev invariant-loop : tie.invariant-loop
-invariant-loop out₀ end rest₀ at₀ out rest at =
-    (at ≤ end) × (at₀ ≤ at) × Same (bits_of (take at₀ out₀) ++ take ((end - at₀) * 8) (field 64 rest₀)) out₀ end out at rest
+pub loop-at-init : goal.loop-at-init
+loop-at-init c =
+    (search rules, search rules, record { bits = refl; kept = refl; bytes = c.requires.0; long = refl })
 
-abbrev decreases-loop : tie.decreases-loop
-decreases-loop out₀ end rest₀ at₀ out rest at = end - at
+pub bounds-out-at : goal.bounds-out-at
+bounds-out-at c =
+    let l = c.loop-at in
+    omega (arith, l.invariant.2.long, c.requires.1.room)
 
-loop-holds : tie.Need-loop-init invariant-loop decreases-loop
-loop-holds c =
-    let g = c.before.before.before.before in
-    (search needs, search needs, record { bits = refl; kept = refl; bytes = g.requires.0; long = refl })
-
-slice-write-out : tie.Need-slice-write-out invariant-loop decreases-loop
-slice-write-out c =
-    let l = c.before.loop in
-    let g = c.before.before.before.before.before.before in
-    omega (arith, l.invariant.2.long, g.requires.1.room)
-
-loop-again : tie.Need-loop-preserved invariant-loop decreases-loop
-loop-again c =
-    let l = c.before.loop in
-    let g = c.before.before.before.before.before.before in
+pub loop-at-preserved : goal.loop-at-preserved
+loop-at-preserved c =
+    let l = c.loop-at in
     let s = l.invariant.2 in (
-      search needs,
-      search needs,
-      stepped s (omega arith) (omega (arith, g.requires.1.few)) (omega (arith, s.long, g.requires.1.room)),
+      search rules,
+      search rules,
+      stepped s (omega arith) (omega (arith, c.requires.1.few)) (omega (arith, s.long, c.requires.1.room)),
     )
 
-returns : tie.Need-returns invariant-loop decreases-loop
+pub returns : goal.returns
 returns c =
-    let l = c.before.loop in
-    let g = c.before.before.before.before.before.before in
-    let p = g.args.p in
+    let l = c.loop-at in
+    let p = c.args.p in
     let end = p.at + (p.held + 7) / 8 in
     let s = l.invariant.2 in
-    whole p g.args.out.now l.out end l.at l.rest ((end - p.at) * 8) g.requires.1.few (omega arith) (omega arith)
-    (omega (arith, s.long, g.requires.1.room)) (omega arith) s
-
-pub put_rest_spec : {M : Type 1} → statement M
-put_rest_spec = tie.close (tie.spec invariant-loop decreases-loop (λ c. search needs) (λ c. search needs) (λ c. search needs) (λ c. search needs) loop-holds
-    (λ c. search needs) slice-write-out (λ c. search needs) (λ c. search needs) loop-again (λ c. search needs) returns)
+    whole p c.args.out.now l.out end l.at l.rest ((end - p.at) * 8) c.requires.1.few (omega arith) (omega arith)
+    (omega (arith, s.long, c.requires.1.room)) (omega arith) s

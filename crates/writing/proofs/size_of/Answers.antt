@@ -1,5 +1,5 @@
 -- `writing::size_of` meets its contract: a name that fits has bits, so that none tells of one that does not. Assumes nothing.
-use Rattle.laws.proofs.Library.{◌≡◌, refl, sym, ap₂, ◌∙◌, Bool, true, false, cond, and-false, List, map, ℕ, ◌+◌, ◌≤◌, arith, needs, length}
+use Rattle.laws.proofs.Library.{◌≡◌, refl, sym, ap₂, ◌∙◌, Bool, true, false, cond, and-false, List, map, ℕ, ◌+◌, ◌≤◌, arith, length}
 use Rattle.rules.specs.Limits.{narrow, bytes_for}
 use Rattle.rules.specs.Strings.{str_of}
 use Rattle.rules.specs.Packed.{name_bits, packed}
@@ -7,8 +7,7 @@ use Rattle.layout.specs.Words.{stamp_of}
 use Rattle.writing.specs.Fits.{fits_name, fits}
 use Rattle.layout.proofs.Sizes.{name_length, names_length}
 use Rattle.writing.proofs.Writing.{fitted, fitted_most}
-use Rattle.writing.proofs.size_of.Statement.{statement}
-use Rattle.writing.proofs.size_of.Tie as tie
+use Rattle.writing.proofs.size_of.Goals as goal
 
 -- the bits of a name, or none
 abbrev bits : List ℕ → ℕ
@@ -53,40 +52,24 @@ unfolding fits
 both u i r s p q e f =
     rw (e, f) (ap₂ (λ (a b : ℕ). bytes_for (a + b)) (all_bits u r p e) (all_bits i s q f) ∙ sym (names_length narrow (stamp_of u i)))
 
-returns : tie.Need-returns
+pub returns-then-u-eq0 : goal.returns-then-u-eq0
+returns-then-u-eq0 c =
+    no_update c.args.update.now c.args.id.now (none c.args.update.now c.bits_of-u.result c.bits_of-u.ensures c.if-u-eq0.true)
+
+pub returns-then-i-eq0 : goal.returns-then-i-eq0
+returns-then-i-eq0 c =
+    no_id c.args.update.now c.args.id.now (none c.args.id.now c.bits_of-i.result c.bits_of-i.ensures c.if-i-eq0.true)
+
+pub overflow_add-result : goal.overflow_add-result
+overflow_add-result c =
+    record { fits = omega (arith, most _ _ c.bits_of-u.ensures, most _ _ c.bits_of-i.ensures) }
+
+pub overflow_add-result-2 : goal.overflow_add-result-2
+overflow_add-result-2 c =
+    record { fits = omega (arith, most _ _ c.bits_of-u.ensures, most _ _ c.bits_of-i.ensures) }
+
+pub returns : goal.returns
 returns c =
-    let i = c.before in
-    let u = i.before in
-    let g = u.before.before.before.args in
-    no_update g.update.now g.id.now (none g.update.now u.bits_of.result u.bits_of.ensures c.if1.true)
-
-returns-2 : tie.Need-returns-2
-returns-2 c =
-    let i = c.before.before in
-    let u = i.before in
-    let g = u.before.before.before.args in
-    no_id g.update.now g.id.now (none g.id.now i.bits-of2.result i.bits-of2.ensures c.if2.true)
-
-add-result : tie.Need-overflow-add-result
-add-result c =
-    let i = c.before.before in
-    let u = i.before in
-    record { fits = omega (arith, most _ _ u.bits_of.ensures, most _ _ i.bits-of2.ensures) }
-
-add-result-2 : tie.Need-overflow-add-result-2
-add-result-2 c =
-    let i = c.before.before in
-    let u = i.before in
-    record { fits = omega (arith, most _ _ u.bits_of.ensures, most _ _ i.bits-of2.ensures) }
-
-returns-3 : tie.Need-returns-3
-returns-3 c =
-    let i = c.before.before in
-    let u = i.before in
-    let g = u.before.before.before.args in
-    both g.update.now g.id.now u.bits_of.result i.bits-of2.result u.bits_of.ensures i.bits-of2.ensures
-    (some g.update.now u.bits_of.result u.bits_of.ensures c.before.if1.false)
-    (some g.id.now i.bits-of2.result i.bits-of2.ensures c.if2.false)
-
-pub size_of_spec : {M : Type 1} → statement M
-size_of_spec = tie.close (tie.spec (λ c κs. search needs) (λ c κs. search needs) returns returns-2 add-result add-result-2 returns-3)
+    both c.args.update.now c.args.id.now c.bits_of-u.result c.bits_of-i.result c.bits_of-u.ensures c.bits_of-i.ensures
+    (some c.args.update.now c.bits_of-u.result c.bits_of-u.ensures c.if-u-eq0.false)
+    (some c.args.id.now c.bits_of-i.result c.bits_of-i.ensures c.if-i-eq0.false)

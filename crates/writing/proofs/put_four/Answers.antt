@@ -1,12 +1,11 @@
 -- `writing::put_four` meets its contract: each byte stands behind those before it, and four bytes have the 32 low bits. Assumes nothing.
-use Rattle.laws.proofs.Library.{◌≡◌, refl, sym, ap, ap₂, ◌∙◌, Bool, List, ◌++◌, append_assoc, ℕ, ◌+◌, ◌/◌, ◌%◌, ◌^◌, ◌≤◌, arith, needs, shr-shr, length}
+use Rattle.laws.proofs.Library.{◌≡◌, refl, sym, ap, ap₂, ◌∙◌, Bool, List, ◌++◌, append_assoc, ℕ, ◌+◌, ◌/◌, ◌%◌, ◌^◌, ◌≤◌, arith, shr-shr, length}
 use Rattle.laws.proofs.Library.{take, drop, set, length-set, drop-set-lt}
 use Rattle.rules.specs.Strings.{field}
 use Rattle.rules.specs.Packed.{bits_of}
 use Rattle.laws.proofs.Words.{field_split}
 use Rattle.writing.proofs.Writing.{byte_put}
-use Rattle.writing.proofs.put_four.Statement.{statement}
-use Rattle.writing.proofs.put_four.Tie as tie
+use Rattle.writing.proofs.put_four.Goals as goal
 
 -- 32 bits, as the bits of four bytes
 four_fields : (v : ℕ) → field 32 v ≡ field 8 (v / 2 ^ 24) ++ field 8 (v / 2 ^ 16) ++ field 8 (v / 2 ^ 8) ++ field 8 v
@@ -59,18 +58,14 @@ module _ (l : List ℕ) (at v : ℕ) (room : at + 4 ≤ length l) where
       drop-set-lt (at + 4) three (at + 3) (v % 256) (omega arith) ∙ drop-set-lt (at + 4) two (at + 2) (v / 2 ^ 8 % 256) (omega arith)
       ∙ drop-set-lt (at + 4) one (at + 1) (v / 2 ^ 16 % 256) (omega arith) ∙ drop-set-lt (at + 4) l at (v / 2 ^ 24 % 256) (omega arith)
 
-slice-write-out-2 : tie.Need-slice-write-out-2
-slice-write-out-2 c = omega (arith, c.requires, one_length c.args.out.now c.args.at c.args.v c.requires)
+pub bounds-out-at-2 : goal.bounds-out-at-2
+bounds-out-at-2 c = omega (arith, c.requires, one_length c.args.out.now c.args.at c.args.v c.requires)
 
-slice-write-out-3 : tie.Need-slice-write-out-3
-slice-write-out-3 c = omega (arith, c.requires, two_length c.args.out.now c.args.at c.args.v c.requires)
+pub bounds-out-at-3 : goal.bounds-out-at-3
+bounds-out-at-3 c = omega (arith, c.requires, two_length c.args.out.now c.args.at c.args.v c.requires)
 
-slice-write-out-4 : tie.Need-slice-write-out-4
-slice-write-out-4 c = omega (arith, c.requires, three_length c.args.out.now c.args.at c.args.v c.requires)
+pub bounds-out-at-4 : goal.bounds-out-at-4
+bounds-out-at-4 c = omega (arith, c.requires, three_length c.args.out.now c.args.at c.args.v c.requires)
 
-returns : tie.Need-returns
+pub returns : goal.returns
 returns c = (four_bits c.args.out.now c.args.at c.args.v c.requires, four_kept c.args.out.now c.args.at c.args.v c.requires)
-
-pub put_four_spec : {M : Type 1} → statement M
-put_four_spec = tie.close (tie.spec (λ c. search needs) (λ c. search needs) (λ c. search needs) (λ c. search needs) slice-write-out-2
-    (λ c. search needs) (λ c. search needs) slice-write-out-3 (λ c. search needs) (λ c. search needs) slice-write-out-4 (λ c. search needs) returns)

@@ -1,5 +1,5 @@
 -- `writing::string_bits` meets its contract: turned, the word has its length above the 58 bits that begin with its digits. Assumes nothing.
-use Rattle.laws.proofs.Library.{◌≡◌, refl, sym, ap, ap₂, ◌∙◌, Bool, List, ◌++◌, ℕ, ◌+◌, ◌*◌, ◌-◌, ◌/◌, ◌%◌, ◌^◌, ◌≤◌, ◌<◌, arith, needs, shr_lt, shr-shr}
+use Rattle.laws.proofs.Library.{◌≡◌, refl, sym, ap, ap₂, ◌∙◌, Bool, List, ◌++◌, ℕ, ◌+◌, ◌*◌, ◌-◌, ◌/◌, ◌%◌, ◌^◌, ◌≤◌, ◌<◌, arith, shr_lt, shr-shr}
 use Rattle.laws.proofs.Library.{high, low, take}
 use Rattle.rules.specs.Limits.{narrow}
 use Rattle.rules.specs.Strings.{field, str_of}
@@ -7,8 +7,7 @@ use Rattle.rules.specs.Packed.{string_bits}
 use Rattle.laws.proofs.Words.{field_low, field_split, field_top, str_length, str_top}
 use Rattle.layout.proofs.Values.{join_lt}
 use Rattle.writing.proofs.Writing.{shifted, push_lt}
-use Rattle.writing.proofs.string_bits.Statement.{statement}
-use Rattle.writing.proofs.string_bits.Tie as tie
+use Rattle.writing.proofs.string_bits.Goals as goal
 
 -- the digits and what stands behind them, above the length
 rest_lt : (s : ℕ) → s < 2 ^ 64 → s / 2 ^ 6 < 2 ^ 58
@@ -45,14 +44,11 @@ module _ (s k t : ℕ) (word : s < 2 ^ 64) (is : k ≡ s % 64) (short : k ≤ 24
 turned_is : (s : ℕ) → (s * 2 ^ 58) % 2 ^ 64 + s / 2 ^ 6 ≡ (s % 64) * 2 ^ 58 + s / 2 ^ 6
 turned_is s = ap (λ (n : ℕ). n + s / 2 ^ 6) (shifted s 6 58)
 
-add_turned : tie.Need-overflow-add-turned
-add_turned c = record { fits = push_lt c.args.s 6 58 (c.args.s / 2 ^ 6) refl (rest_lt c.args.s c.ranges.s.fits) }
+pub overflow_add-turned : goal.overflow_add-turned
+overflow_add-turned c = record { fits = push_lt c.args.s 6 58 (c.args.s / 2 ^ 6) refl (rest_lt c.args.s c.ranges.s.fits) }
 
-returns : tie.Need-returns
+pub returns : goal.returns
 returns c =
     let s = c.args.s in
     let word = c.ranges.s.fits in
     (number_lt s (s % 64) _ word refl c.requires (turned_is s), bits_are s (s % 64) _ word refl c.requires (turned_is s))
-
-pub string_bits_spec : {M : Type 1} → statement M
-string_bits_spec = tie.close (tie.spec add_turned (λ c. search needs) (λ c. search needs) returns)

@@ -1,6 +1,6 @@
 -- `writing::put_stamp` meets its contract: each name's strings are put behind its count, and what is then written are the stamp's bits.
 -- Assumes nothing.
-use Rattle.laws.proofs.Library.{◌≡◌, refl, sym, ap, ◌∙◌, Bool, List, ◌++◌, map, append_assoc, ℕ, ◌+◌, ◌*◌, ◌-◌, ◌%◌, ◌^◌, ◌≤◌, arith, needs, length, take}
+use Rattle.laws.proofs.Library.{◌≡◌, refl, sym, ap, ◌∙◌, Bool, List, ◌++◌, map, append_assoc, ℕ, ◌+◌, ◌*◌, ◌-◌, ◌%◌, ◌^◌, ◌≤◌, arith, length, take}
 use Rattle.laws.proofs.Library.{drop, length-map, drop-drop}
 use Rattle.rules.specs.Limits.{narrow}
 use Rattle.rules.specs.Strings.{field, str_of}
@@ -11,8 +11,8 @@ use Rattle.writing.specs.declared.Pen.{Pen}
 use Rattle.layout.proofs.Sizes.{name_length, names_length}
 use Rattle.layout.proofs.Values.{bytes_are}
 use Rattle.writing.proofs.Writing.{both_fit, push_lt, push_bits}
-use Rattle.writing.proofs.put_stamp.Statement.{statement}
-use Rattle.writing.proofs.put_stamp.Tie as tie
+use Rattle.std.proofs.Common.{rules}
+use Rattle.writing.proofs.put_stamp.Goals as goal
 
 abbrev strings : List ℕ → List Bool
 strings n = strings_bits narrow (map str_of n)
@@ -72,61 +72,53 @@ module _ (u i l : List ℕ) (q : Pen) (m : List ℕ) (p : Put (first u) l (strin
     whole z h e =
         e ∙ ap (λ (x : List ℕ). over x k) (stamp_is h) ∙ ap (λ (x : List ℕ). packed narrow (stamp_of u i) ++ x) rest_kept
 
-sub-c : tie.Need-overflow-sub-c
-sub-c c = let g = c.before.before.before in (both_fit g.args.update.now g.args.id.now g.requires.0).0.nonempty
+pub overflow_sub-c : goal.overflow_sub-c
+overflow_sub-c c = (both_fit c.args.update.now c.args.id.now c.requires.0).0.nonempty
 
-sub-d : tie.Need-overflow-sub-d
-sub-d c = let g = c.before.before.before in (both_fit g.args.update.now g.args.id.now g.requires.0).1.nonempty
+pub overflow_sub-d : goal.overflow_sub-d
+overflow_sub-d c = (both_fit c.args.update.now c.args.id.now c.requires.0).1.nonempty
 
-put-strings-requires : tie.Need-put-strings-requires
-put-strings-requires c κs =
-    let g = c.before.before.before.before in
-    let u = g.args.update.now in
-    let i = g.args.id.now in (
-      (both_fit u i g.requires.0).0.short,
-      record { few = omega arith; room = omega (arith, g.requires.1, names_length narrow (stamp_of u i), name_size u, name_size i) },
+pub put_strings-u-requires : goal.put_strings-u-requires
+put_strings-u-requires c =
+    let u = c.args.update.now in
+    let i = c.args.id.now in (
+      (both_fit u i c.requires.0).0.short,
+      record { few = omega arith; room = omega (arith, c.requires.1, names_length narrow (stamp_of u i), name_size u, name_size i) },
     )
 
-add-acc : tie.Need-overflow-add-acc
-add-acc c =
-    let p = c.before.before.before.before in
-    let g = p.before.before.before.before.before in
-    let i = g.args.id.now in
-    let fit = (both_fit g.args.update.now i g.requires.0).1 in
-    record { fits = push_lt p.put-strings.result.acc 60 4 (length i - 1) refl (omega (arith, fit.few)) }
+pub overflow_add-acc : goal.overflow_add-acc
+overflow_add-acc c =
+    let i = c.args.id.now in
+    let fit = (both_fit c.args.update.now i c.requires.0).1 in
+    record { fits = push_lt c.put_strings-u.result.acc 60 4 (length i - 1) refl (omega (arith, fit.few)) }
 
-put-strings-requires-2 : tie.Need-put-strings-requires-2
-put-strings-requires-2 c κs =
-    let p = c.before.before.before.before.before in
-    let g = p.before.before.before.before.before in
-    let u = g.args.update.now in
-    let i = g.args.id.now in
-    let put = p.put-strings.ensures in (
-      (both_fit u i g.requires.0).1.short,
+pub put_strings-i-requires : goal.put_strings-i-requires
+put_strings-i-requires c =
+    let u = c.args.update.now in
+    let i = c.args.id.now in
+    let put = c.put_strings-u.ensures in (
+      (both_fit u i c.requires.0).1.short,
       record {
         few = omega (arith, put.fewer (omega arith));
-        room = omega (arith, put.moved, p.put-strings.auto.0, g.requires.1, names_length narrow (stamp_of u i), name_size u, name_size i);
+        room = omega (arith, put.moved, c.put_strings-u.auto.out, c.requires.1, names_length narrow (stamp_of u i), name_size u, name_size i);
       },
     )
 
-put-rest-requires : tie.Need-put-rest-requires
-put-rest-requires c κs =
-    let s = c.before.before.before in
-    let p = s.before.before.before.before.before.before in
-    let g = p.before.before.before.before.before in
-    let u = g.args.update.now in
-    let i = g.args.id.now in
-    let put = s.put-strings2.ensures in (
-      bytes_are s.put-strings2.new.0 (λ j. (c.before.slice-known3.given j).fits),
+pub put_rest-requires : goal.put_rest-requires
+put_rest-requires c =
+    let u = c.args.update.now in
+    let i = c.args.id.now in
+    let put = c.put_strings-i.ensures in (
+      bytes_are c.put_strings-i.new.out (λ j. search rules),
       record {
         few = put.few;
         room = omega (
           arith,
           put.moved,
-          p.put-strings.ensures.moved,
-          s.put-strings2.auto.0,
-          p.put-strings.auto.0,
-          g.requires.1,
+          c.put_strings-u.ensures.moved,
+          c.put_strings-i.auto.out,
+          c.put_strings-u.auto.out,
+          c.requires.1,
           names_length narrow (stamp_of u i),
           name_size u,
           name_size i,
@@ -134,18 +126,10 @@ put-rest-requires c κs =
       },
     )
 
-returns : tie.Need-returns
+pub returns : goal.returns
 returns c =
-    let e = c.before.before in
-    let s = e.before.before.before.before in
-    let p = s.before.before.before.before.before.before in
-    let g = p.before.before.before.before.before in
-    let u = g.args.update.now in
-    let i = g.args.id.now in
-    whole u i g.args.out.now p.put-strings.result p.put-strings.new.0 p.put-strings.ensures
-    s.put-strings2.result s.put-strings2.new.0 s.put-strings2.ensures e.put_rest.new.0
-    (both_fit u i g.requires.0).1.few e.put_rest.ensures
-
-pub put_stamp_spec : {M : Type 1} → statement M
-put_stamp_spec = tie.close (tie.spec sub-c sub-d put-strings-requires (λ c. search needs) (λ c. search needs) add-acc put-strings-requires-2
-    put-rest-requires (λ c. search needs) returns)
+    let u = c.args.update.now in
+    let i = c.args.id.now in
+    whole u i c.args.out.now c.put_strings-u.result c.put_strings-u.new.out c.put_strings-u.ensures
+    c.put_strings-i.result c.put_strings-i.new.out c.put_strings-i.ensures c.put_rest.new.out
+    (both_fit u i c.requires.0).1.few c.put_rest.ensures
