@@ -1,5 +1,6 @@
 // One packed stamp by value: read from bytes of any content, and written into a lent buffer.
 #![tactic(auto)]
+
 ghost use Rattle.std.specs.Prelude.{◌≡◌};
 ghost use Rattle.rules.specs.Limits.{narrow};
 ghost use Rattle.rules.specs.Packed.{read_stamp, written_stamp};
