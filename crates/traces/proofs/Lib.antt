@@ -2,5 +2,4 @@
 pub mod Tied
 pub mod Turns
 pub mod Ran
-pub mod Plain
 pub mod Unique

@@ -1,5 +1,6 @@
 // Trace commands at the table: a command is three numbers, the letter and two slots. The table's run is lent on to its functions.
 #![tactic(auto)]
+
 ghost use Rattle.std.specs.Prelude.{◌≡◌};
 ghost use Rattle.rules.specs.Limits.{narrow, records};
 ghost use Rattle.rules.specs.Tables.{fresh_table};

@@ -1,5 +1,5 @@
 -- `traces::stood` meets its contract: a conflict shows its strings, and all else its number. Assumes nothing.
-use Rattle.laws.proofs.Library.{◌≡◌, refl, sym, ap, ◌∙◌, [], ◌∷◌, ℕ, needs}
+use Rattle.laws.proofs.Library.{◌≡◌, refl, sym, ap, ◌∙◌, [], ◌∷◌, ℕ}
 use types.Run.{OneOf, miss}
 use denote.Enum.Declared.{tag_of}
 use Rattle.rules.specs.Packed.{compared_number}
@@ -8,8 +8,7 @@ use Rattle.rules.specs.declared.Standing.{Standing}
 use Rattle.rules.specs.contracts.Standing as S
 use Rattle.lines.specs.Runs.{stood}
 use Rattle.traces.specs.Serves.{command}
-use Rattle.traces.proofs.stood.Statement.{statement}
-use Rattle.traces.proofs.stood.Tie as tie
+use Rattle.traces.proofs.stood.Goals as goal
 
 -- any other than a conflict
 rest : (op b : ℕ) (s : Standing) → OneOf (0 ∷ 1 ∷ 2 ∷ 4 ∷ []) (tag_of S.the_type s) → command op (compared_number (compared_of s)) b ≡ stood (command op 0 b) s
@@ -19,16 +18,9 @@ rest op b (Standing.Newer x) h = refl
 rest op b (Standing.Conflict x y) h = absurd (miss (0 ∷ 1 ∷ 2 ∷ 4 ∷ []) 3 tt h)
 rest op b (Standing.Refused r) h = refl
 
-returns : tie.Need-returns
-returns c =
-    let g = c.before.before.before.args in
-    sym (ap (λ (s : Standing). stood (command g.op 0 g.b) s) c.before.s.given.1)
+pub returns-in-Conflict : goal.returns-in-Conflict
+returns-in-Conflict c = sym (ap (λ (s : Standing). stood (command c.args.op 0 c.args.b) s) c.in-Conflict.is)
 
-returns-2 : tie.Need-returns-2
-returns-2 c =
-    let k = c.before in
-    let g = k.before.before.args in
-    c.numbered.ensures ∙ ap (λ (n : ℕ). command g.op n g.b) k.compared-code.ensures ∙ rest g.op g.b g.s k.before.match.keys2
-
-pub stood_spec : {M : Type 1} → statement M
-stood_spec = tie.close (tie.spec (λ c. search needs) (λ c κs. search needs) (λ c κs. search needs) returns returns-2)
+pub returns-in_default : goal.returns-in_default
+returns-in_default c =
+    c.numbered.ensures ∙ ap (λ (n : ℕ). command c.args.op n c.args.b) c.compared_code.ensures ∙ rest c.args.op c.args.b c.args.s c.in_default-own.keys2
