@@ -1,5 +1,5 @@
 -- `traces::change` meets its contract: each letter's arm is the table's function that the definition names. Assumes nothing.
-use Rattle.laws.proofs.Library.{◌≡◌, refl, ℕ, eq-eqb, ne_eqb}
+use Rattle.laws.proofs.Library.{◌≡◌, ℕ, eq-eqb, ne_eqb}
 use Rattle.rules.specs.Limits.{narrow}
 use Rattle.rules.specs.Tables.{Table, update_at, fork_at, join_at, slot_number}
 use Rattle.lines.specs.declared.Command.{Command}

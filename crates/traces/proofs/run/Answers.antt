@@ -1,5 +1,5 @@
 -- `traces::run` meets its contract: each turn takes the command at its place, serves it and puts its answer there. Assumes nothing.
-use Rattle.laws.proofs.Library.{◌≡◌, refl, ap, sym, ◌∙◌, subst, List, ℕ, ◌+◌, ◌*◌, ◌-◌, ◌/◌, ◌≤◌, ◌<◌, arith, length}
+use Rattle.laws.proofs.Library.{◌≡◌, ap, sym, ◌∙◌, List, ℕ, ◌+◌, ◌*◌, ◌-◌, ◌/◌, ◌≤◌, ◌<◌, arith, length}
 use Rattle.rules.specs.Limits.{narrow}
 use Rattle.rules.specs.Tables.{Table}
 use Rattle.rules.specs.Traces.{line_table}

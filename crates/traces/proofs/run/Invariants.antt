@@ -1,4 +1,4 @@
-use Rattle.laws.proofs.Library.{◌≡◌, ℕ, ◌*◌, ◌-◌, ◌≤◌, ◌/◌, length}
+use Rattle.laws.proofs.Library.{◌≡◌, ◌*◌, ◌-◌, ◌≤◌, length}
 use Rattle.traces.proofs.Turns.{runs}
 use Rattle.traces.proofs.run.Given as goal
 
