@@ -1,6 +1,7 @@
 // A trace's lines. The bytes of the input become commands, three numbers each, however the input is cut into pieces. The table is for
 // another crate, which puts each answer's number in the place of `a`.
 #![tactic(auto)]
+
 mod text;
 
 ghost use Rattle.std.specs.Prelude.{◌≡◌, [], ◌∷◌, ◌+◌, ◌≤◌, length};
