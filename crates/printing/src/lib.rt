@@ -1,6 +1,7 @@
 // A trace's answers as text. A command in the buffer is three numbers; where it has been answered, the number of its answer stands in the
 // place of its first slot, or, where two copies are in conflict, both slots give way to the words of their uncovered strings.
 #![tactic(auto)]
+
 mod answers;
 
 ghost use Rattle.std.specs.Prelude.{◌≡◌};
