@@ -1,6 +1,7 @@
 // The packed calls: update, fork, join and compare on lent bytes, and which of two to keep.
 // Refusals come in the order 1 and 2 for the first stamp, 1 and 2 for the second, 8, 9, 6, 7, 10.
 #![tactic(auto)]
+
 mod lengths;
 
 ghost use Rattle.std.specs.Prelude.{◌≡◌, []};

@@ -1,6 +1,6 @@
 -- `calls::fork` meets its contract: what the reader refuses is passed out, then an id that can grow no longer. Both branches of a lawful stamp
 -- are lawful, so that their words fit, and only the buffers are left to refuse. Assumes nothing.
-use Rattle.laws.proofs.Library.{◌≡◌, refl, sym, ap, ◌∙◌, Bool, true, false, List, ℕ, needs, eqb, lit≤, length, take, replicate}
+use Rattle.laws.proofs.Library.{◌≡◌, refl, sym, ap, ◌∙◌, Bool, true, false, List, ℕ, eqb, lit≤, length, take, replicate}
 use Rattle.rules.specs.Limits.{narrow}
 use Rattle.rules.specs.Strings.{digit}
 use Rattle.rules.specs.Names.{any}
@@ -21,11 +21,9 @@ use Rattle.names.proofs.Grown.{grown_branch}
 use Rattle.walks.specs.Walks.{is_long}
 use Rattle.stamps.proofs.Laws.{Counted, both_counted, stored_names, forked_is, lent_long}
 use Rattle.writing.specs.Fits.{written_both}
-use Rattle.reading.proofs.Lent.{given_by}
 use Rattle.writing.proofs.Writing.{two, stored_fits}
 use Rattle.calls.proofs.Laws.{Read, was_read, not_read, passed}
-use Rattle.calls.proofs.fork.Statement.{statement}
-use Rattle.calls.proofs.fork.Tie as tie
+use Rattle.calls.proofs.fork.Goals as goal
 
 -- r with the words ws of an id as long as its own
 abbrev with_id : Record → List ℕ → Record
@@ -69,60 +67,49 @@ module _ {s : List ℕ} {r : Record} (h : Read s r) where
     writes x y z o =
         rw (h.is, sym (forked_is narrow r _ _ h.stored short z.is o.is), stored_fits _ z.stored, stored_fits _ o.stored)
 
--- the stamp that was read
-module _ (c : tie.After-enum-told) where
-  abbrev reading : tie.After-read-in
-  reading = c.before.before
+pub returns-in_default : goal.returns-in_default
+returns-in_default c =
+    let w = two _ _ (refused _ _ _ (not_read _ c.read_in-c.ensures.0 c.in_default.is)) in
+    (passed c.refused.ensures c.in_default.is ∙ w.0, w.1, w.2)
 
-  abbrev a : Record
-  a = (given_by reading.read-in.result reading.read-in.last.1.0 reading.read-in.last.1.1.0).stamp
+pub returns-then-is_long : goal.returns-then-is_long
+returns-then-is_long c =
+    two _ _ (too_long_lem (was_read c.read_in-c.ensures c.in-Done.is) c.args.zero.now c.args.one.now (sym c.is_long.ensures ∙ c.if-is_long.true))
 
-  abbrev begun : tie.Start
-  begun = reading.before.before.before.before.before.before
-
-  read : Read begun.args.stamp.now a
-  read = was_read reading.read-in.ensures c.enum_told.given.1
-
--- its branches
-module _ (c : tie.After-grow) where
-  abbrev grows : tie.Else1
-  grows = c.before.before.before.before
-
-  abbrev done : tie.After-enum-told
-  done = grows.before.before.before
-
-  not_long : is_long (take (a done).id.count (a done).id.words) ≡ false
-  not_long = sym grows.before.is-long.ensures ∙ grows.if1.left
-
-  zero_branch : Branch (a done) false c.grow.new.1.0
-  zero_branch = branch (read done) not_long false _ c.grow.ensures.0
-
-  one_branch : Branch (a done) true c.grow.new.1.1.0
-  one_branch = branch (read done) not_long true _ c.grow.ensures.1
-
-returns : tie.Need-returns
+pub returns : goal.returns
 returns c =
-    let no = c.before.enum-told2.given.1 in
-    let w = two _ _ (refused _ _ _ (not_read _ c.before.before.before.read-in.ensures.0 no)) in
-    (passed c.refused.ensures no ∙ w.0, w.1, w.2)
+    let read = was_read c.read_in-c.ensures c.in-Done.is in
+    let zero = branch read (sym c.is_long.ensures ∙ c.if-is_long.false) false _ c.grow.ensures.0 in
+    let one = branch read (sym c.is_long.ensures ∙ c.if-is_long.false) true _ c.grow.ensures.1 in
+    let same = two _ _ (writes read (sym c.is_long.ensures ∙ c.if-is_long.false) _ _ zero one) in
+    (c.write_both.ensures.0 ∙ same.0, c.write_both.ensures.1 ∙ same.1, c.write_both.ensures.2 ∙ same.2)
 
-returns-2 : tie.Need-returns-2
-returns-2 c =
-    let l = c.before in
-    let t = l.before.before in
-    two _ _ (too_long_lem (read t) (begun t).args.zero.now (begun t).args.one.now (sym l.is-long.ensures ∙ c.if1.true))
+pub slice_bounds-i-end : goal.slice_bounds-i-end
+slice_bounds-i-end c = (was_read c.read_in-c.ensures c.in-Done.is).id.inside
 
-returns-3 : tie.Need-returns-3
-returns-3 c =
-    let w = c.before.before.before.before in
-    let o = w.before.before.before.before.before.before in
-    let same = two _ _ (writes (read (done o)) (not_long o) _ _ (zero_branch o) (one_branch o)) in
-    (w.write-both.ensures.0 ∙ same.0, w.write-both.ensures.1 ∙ same.1, w.write-both.ensures.2 ∙ same.2)
+pub slice_bounds-is_long-end : goal.slice_bounds-is_long-end
+slice_bounds-is_long-end c = (was_read c.read_in-c.ensures c.in-Done.is).id.taken
 
-pub fork_spec : {M : Type 1} → statement M
-fork_spec = tie.close (tie.spec (λ c κs. search needs) (λ c. search needs) (λ c. search needs) (λ c κs. search needs) returns
-    (λ c. (read c).id.inside) (λ c. (read c.before).id.taken) (λ c κs. search needs) returns-2 (λ c. (read c.before.before.before).id.inside)
-    (λ c. (read c.before.before.before.before).id.taken) (λ c κs. search needs) (λ c. (read (done c)).update.inside)
-    (λ c. (read (done c.before)).update.taken) (λ c. (zero_branch c.before).id.inside) (λ c. (zero_branch c.before.before).id.taken)
-    (λ c. (one_branch c.before.before).id.inside) (λ c. (one_branch c.before.before.before).id.taken) (λ c κs. search needs)
-    (λ c. search needs) (λ c. search needs) returns-3)
+pub slice_bounds-i-end-2 : goal.slice_bounds-i-end-2
+slice_bounds-i-end-2 c = (was_read c.read_in-c.ensures c.in-Done.is).id.inside
+
+pub slice_bounds-grow-end : goal.slice_bounds-grow-end
+slice_bounds-grow-end c = (was_read c.read_in-c.ensures c.in-Done.is).id.taken
+
+pub slice_bounds-u-end : goal.slice_bounds-u-end
+slice_bounds-u-end c = (was_read c.read_in-c.ensures c.in-Done.is).update.inside
+
+pub slice_bounds-write_both-end : goal.slice_bounds-write_both-end
+slice_bounds-write_both-end c = (was_read c.read_in-c.ensures c.in-Done.is).update.taken
+
+pub slice_bounds-x-end : goal.slice_bounds-x-end
+slice_bounds-x-end c = (branch (was_read c.read_in-c.ensures c.in-Done.is) (sym c.is_long.ensures ∙ c.if-is_long.false) false _ c.grow.ensures.0).id.inside
+
+pub slice_bounds-write_both-end-2 : goal.slice_bounds-write_both-end-2
+slice_bounds-write_both-end-2 c = (branch (was_read c.read_in-c.ensures c.in-Done.is) (sym c.is_long.ensures ∙ c.if-is_long.false) false _ c.grow.ensures.0).id.taken
+
+pub slice_bounds-y-end : goal.slice_bounds-y-end
+slice_bounds-y-end c = (branch (was_read c.read_in-c.ensures c.in-Done.is) (sym c.is_long.ensures ∙ c.if-is_long.false) true _ c.grow.ensures.1).id.inside
+
+pub slice_bounds-write_both-end-3 : goal.slice_bounds-write_both-end-3
+slice_bounds-write_both-end-3 c = (branch (was_read c.read_in-c.ensures c.in-Done.is) (sym c.is_long.ensures ∙ c.if-is_long.false) true _ c.grow.ensures.1).id.taken

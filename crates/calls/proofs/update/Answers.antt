@@ -1,6 +1,6 @@
 -- `calls::update` meets its contract: a refusal of the reader is passed out, and what is read is lawful, so that its update is too,
 -- and only a short buffer is left to refuse. Assumes nothing.
-use Rattle.laws.proofs.Library.{◌≡◌, sym, ap, ◌∙◌, true, List, ℕ, arith, needs, lit≤, take, length-take-le}
+use Rattle.laws.proofs.Library.{◌≡◌, sym, ap, ◌∙◌, true, List, ℕ, lit≤, take}
 use Rattle.rules.specs.Limits.{narrow}
 use Rattle.rules.specs.Stamps.{update}
 use Rattle.rules.specs.Stored.{stored, strs_in, held, is_stored}
@@ -15,10 +15,8 @@ use Rattle.laws.proofs.Stored.{is_stored_lem, stored_is, stored_lawful}
 use Rattle.stamps.proofs.Laws.{updated_is}
 use Rattle.writing.specs.Fits.{written_names}
 use Rattle.writing.proofs.Writing.{stored_fits}
-use Rattle.reading.proofs.Lent.{given_by}
 use Rattle.calls.proofs.Laws.{Read, was_read, not_read, tells_same, tells_refused}
-use Rattle.calls.proofs.update.Statement.{statement}
-use Rattle.calls.proofs.update.Tie as tie
+use Rattle.calls.proofs.update.Goals as goal
 
 module _ (s l : List ℕ) where
   refused : {r : Refusal} → (read_stamp narrow s).answer ≡ Refused r → packed_update narrow s l ≡ record { answer = NotWritten r; out = l }
@@ -40,30 +38,16 @@ module _ (s l : List ℕ) where
     unfolding packed_update written_names first held strs_in
     writes = rw (x.is, sym (updated_is narrow r x.stored), stored_fits alike alike_stored)
 
--- the stamp that was read
-module _ (c : tie.After-enum-told) where
-  abbrev reading : tie.After-read-in
-  reading = c.before.before
+pub returns-in_default : goal.returns-in_default
+returns-in_default c =
+    tells_refused c.refused.ensures c.in_default.is (refused _ _ (not_read _ c.read_in-c.ensures.0 c.in_default.is))
 
-  abbrev begun : tie.Start
-  begun = reading.before.before.before.before.before
-
-  read : Read begun.args.stamp.now
-      (given_by reading.read-in.result reading.read-in.last.1.0 reading.read-in.last.1.1.0).stamp
-  read = was_read reading.read-in.ensures c.enum_told.given.1
-
-returns : tie.Need-returns
+pub returns : goal.returns
 returns c =
-    let no = c.before.enum-told2.given.1 in
-    tells_refused c.refused.ensures no (refused _ _ (not_read _ c.before.before.before.read-in.ensures.0 no))
+    tells_same (writes c.args.stamp.now c.args.out.now (was_read c.read_in-c.ensures c.in-Done.is)) c.write_alike.ensures
 
-returns-2 : tie.Need-returns-2
-returns-2 c =
-    let w = c.before.before in
-    let r = w.before.before.before in
-    tells_same {l = w.write-alike.new.1.0} (writes (begun r).args.stamp.now (begun r).args.out.now (read r)) w.write-alike.ensures
+pub slice_bounds-i-end : goal.slice_bounds-i-end
+slice_bounds-i-end c = (was_read c.read_in-c.ensures c.in-Done.is).id.inside
 
-pub update_spec : {M : Type 1} → statement M
-update_spec = tie.close (tie.spec (λ c κs. search needs) (λ c. search needs) (λ c. search needs) (λ c κs. search needs) returns
-    (λ c. search (arith, (read c).update, (read c).id)) (λ c. sym (length-take-le _ _ (search (arith, (read c.before).update, (read c.before).id))))
-    (λ c κs. search needs) (λ c. search needs) returns-2)
+pub slice_bounds-write_alike-end : goal.slice_bounds-write_alike-end
+slice_bounds-write_alike-end c = (was_read c.read_in-c.ensures c.in-Done.is).id.taken

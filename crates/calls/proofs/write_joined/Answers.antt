@@ -1,6 +1,6 @@
 -- `calls::write_joined` meets its contract: the first words of both buffers are those of the join, and where its id is not too large the join is
 -- lawful, so that they fit. Assumes nothing.
-use Rattle.laws.proofs.Library.{◌≡◌, sym, ap, ap₂, ◌∙◌, subst₂, true, false, List, ℕ, ◌≤◌, ◌<◌, arith, needs, lt-ltb, le-ltb, length, take, replicate}
+use Rattle.laws.proofs.Library.{◌≡◌, sym, ap, ap₂, ◌∙◌, subst₂, true, false, List, ℕ, ◌≤◌, ◌<◌, arith, lt-ltb, le-ltb, length, take, replicate}
 use Rattle.laws.proofs.Library.{length-map, length-take-le}
 use Rattle.rules.specs.Limits.{narrow}
 use Rattle.rules.specs.Strings.{str_of}
@@ -21,8 +21,7 @@ use Rattle.writing.specs.Fits.{written_names}
 use Rattle.writing.proofs.Writing.{both, lawful_fits}
 use Rattle.calls.specs.Joins.{Lent, wrote_join}
 use Rattle.calls.proofs.Laws.{tells_same}
-use Rattle.calls.proofs.write_joined.Statement.{statement}
-use Rattle.calls.proofs.write_joined.Tie as tie
+use Rattle.calls.proofs.write_joined.Goals as goal
 
 -- what the walk over the words of two stamps leaves in buffers of zeros
 abbrev Joins : List ℕ → List ℕ → List ℕ → List ℕ → Type 0
@@ -68,35 +67,30 @@ module _ {u i v j : List ℕ} (x : Lent u i) (y : Lent v j) where
       unfolding wrote_join written_names first
       writes l = rw (lawful_fits narrow (take r.update us) (take r.id is) (ap (lawful narrow) told_is ∙ is_lawful), told_is, few)
 
--- the join in the buffers
-module _ (c : tie.After-join) where
-  abbrev begun : tie.Start
-  begun = c.before.before.before.before.before.before.before.before
+    update_inside : r.update ≤ length us
+    update_inside = omega (arith, w.counts, w.fits, w.update_room)
 
-  joined : Told (join (stamp_of begun.args.u.now begun.args.i.now) (stamp_of begun.args.v.now begun.args.j.now)) c.join.result c.join.new.1.1.1.1.0
-      c.join.new.1.1.1.1.1.0
-  joined = told begun.pre.0 begun.pre.1 _ _ _ c.join.ensures.0 c.join.ensures.1 c.join.ensures.2
+    id_inside : r.id ≤ length is
+    id_inside = omega (arith, w.fits, w.id_room)
 
-  update_inside : c.join.result.update ≤ length c.join.new.1.1.1.1.0
-  update_inside = omega (arith, joined.counts, joined.fits, joined.update_room)
+pub returns-then-n-gt-STRINGS : goal.returns-then-n-gt-STRINGS
+returns-then-n-gt-STRINGS c =
+    let joined = told c.requires.0 c.requires.1 _ _ _ c.join-k.ensures.0 c.join-k.ensures.1 c.join-k.ensures.2 in
+    both _ _ (too_many c.requires.0 c.requires.1 joined c.if-n-gt-STRINGS.true _)
 
-  id_inside : c.join.result.id ≤ length c.join.new.1.1.1.1.1.0
-  id_inside = omega (arith, joined.fits, joined.id_room)
-
-returns : tie.Need-returns
+pub returns : goal.returns
 returns c =
-    let k = c.before.before.before in
-    both _ _ (too_many (begun k).requires.0 (begun k).requires.1 (joined k) (omega (arith, c.if1.true)) _)
+    let joined = told c.requires.0 c.requires.1 _ _ _ c.join-k.ensures.0 c.join-k.ensures.1 c.join-k.ensures.2 in
+    tells_same (writes c.requires.0 c.requires.1 joined c.if-n-gt-STRINGS.false _) c.write_from.ensures
 
-returns-2 : tie.Need-returns-2
-returns-2 c =
-    let w = c.before.before in
-    let e = w.before.before.before.before in
-    let k = e.before.before.before in
-    tells_same (writes (begun k).requires.0 (begun k).requires.1 (joined k) (omega (arith, e.if1.false)) _) w.write-from.ensures
+pub slice_bounds-update-end : goal.slice_bounds-update-end
+slice_bounds-update-end c = update_inside c.requires.0 c.requires.1 (told c.requires.0 c.requires.1 _ _ _ c.join-k.ensures.0 c.join-k.ensures.1 c.join-k.ensures.2)
 
-pub write_joined_spec : {M : Type 1} → statement M
-write_joined_spec = tie.close (tie.spec (λ c. search needs) (λ c. search needs) (λ c κs. search needs) returns
-    (λ c. update_inside c.before.before.before) (λ c. sym (length-take-le _ _ (update_inside c.before.before.before.before)))
-    (λ c. id_inside c.before.before.before.before) (λ c. sym (length-take-le _ _ (id_inside c.before.before.before.before.before)))
-    (λ c κs. search needs) (λ c. search needs) returns-2)
+pub slice_bounds-write_from-end : goal.slice_bounds-write_from-end
+slice_bounds-write_from-end c = sym (length-take-le _ _ (update_inside c.requires.0 c.requires.1 (told c.requires.0 c.requires.1 _ _ _ c.join-k.ensures.0 c.join-k.ensures.1 c.join-k.ensures.2)))
+
+pub slice_bounds-id-end : goal.slice_bounds-id-end
+slice_bounds-id-end c = id_inside c.requires.0 c.requires.1 (told c.requires.0 c.requires.1 _ _ _ c.join-k.ensures.0 c.join-k.ensures.1 c.join-k.ensures.2)
+
+pub slice_bounds-write_from-end-2 : goal.slice_bounds-write_from-end-2
+slice_bounds-write_from-end-2 c = sym (length-take-le _ _ (id_inside c.requires.0 c.requires.1 (told c.requires.0 c.requires.1 _ _ _ c.join-k.ensures.0 c.join-k.ensures.1 c.join-k.ensures.2)))
