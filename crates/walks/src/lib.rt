@@ -1,6 +1,7 @@
 // Names as lent words in rising order: below and the first uncovered string, what 8 asks, siblings, and the longest strings, each by one
 // walk. And of the words of two stamps, each of an update and an id: what they are refused for where they meet, and how they stand.
 #![tactic(auto)]
+
 ghost use Rattle.std.specs.Prelude.{◌≡◌, ◌≤◌, length, drop};
 ghost use Rattle.walks.specs.Walks.{at_least, below_walk, uncovered_walk, overlap_walk, unknown_walk, has_twins, is_long, meet_walk, compare_walk};
 ghost use Rattle.walks.specs.Walks.{judged_by};

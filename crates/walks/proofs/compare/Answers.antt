@@ -1,5 +1,5 @@
 -- `walks::compare` meets its contract: what the two are refused for, or how they stand by both places. Assumes nothing.
-use Rattle.laws.proofs.Library.{needs, ◌≡◌, sym, ap, ap₂, ◌∙◌, List, ℕ}
+use Rattle.laws.proofs.Library.{◌≡◌, sym, ap, ap₂, ◌∙◌, List, ℕ}
 use Rattle.rules.specs.declared.Refusal.{Refusal}
 use Rattle.rules.specs.declared.Answer.{Answer}
 use Rattle.rules.specs.declared.Answer.TheVariants.{Done, Refused}
@@ -7,8 +7,7 @@ use Rattle.rules.specs.declared.Standing.{Standing}
 use Rattle.walks.specs.declared.Looked.{Looked}
 use Rattle.walks.specs.Walks.{uncovered_walk, judged_by, stand_after, compare_walk}
 use Rattle.walks.specs.Inner.{LookedAt}
-use Rattle.walks.proofs.compare.Statement.{statement}
-use Rattle.walks.proofs.compare.Tie as tie
+use Rattle.walks.proofs.compare.Goals as goal
 
 module _ (u i v j : List ℕ) (l : Looked) (h : LookedAt u i v j l) where
   -- how they stand after an answer
@@ -23,19 +22,11 @@ module _ (u i v j : List ℕ) (l : Looked) (h : LookedAt u i v j l) where
   unfolding compare_walk
   judged_so s e f = f ∙ ap₂ (λ (p q : ℕ). judged_by u p v q) (h.first e) (h.second e) ∙ ap then (sym e ∙ h.answer)
 
-returns : tie.Need-returns
-returns c =
-    let k = c.before.before.before in
-    let g = k.before.before.before.before.before.args in
-    refused_so g.u.now g.i.now g.v.now g.j.now k.look.result k.look.ensures _ c.before.a.given.1
+pub returns-in-Refused : goal.returns-in-Refused
+returns-in-Refused c =
+    refused_so c.args.u.now c.args.i.now c.args.v.now c.args.j.now c.look-l.result c.look-l.ensures _ c.in-Refused.is
 
-returns-2 : tie.Need-returns-2
-returns-2 c =
-    let d = c.before in
-    let k = d.before.before in
-    let g = k.before.before.before.before.before.args in
-    judged_so g.u.now g.i.now g.v.now g.j.now k.look.result k.look.ensures c.judged.result d.enum_told.given.1
+pub returns-in-Done : goal.returns-in-Done
+returns-in-Done c =
+    judged_so c.args.u.now c.args.i.now c.args.v.now c.args.j.now c.look-l.result c.look-l.ensures c.judged.result c.in-Done.is
     c.judged.ensures
-
-pub compare_spec : {M : Type 1} → statement M
-compare_spec = tie.close (tie.spec (λ c κs. search needs) (λ c. search needs) (λ c. search needs) (λ c κs. search needs) returns returns-2)
