@@ -14,6 +14,10 @@ use Rattle.laws.proofs.Lawful.{name_parts}
 use Rattle.laws.proofs.Stored.{stored_name, stored_name_is}
 use Rattle.laws.proofs.Rising.{less_trans, rising_head, rising_tail, rising_cons}
 
+-- the words lent, as those of a record that counts c strings
+abbrev pub lent : ℕ → List ℕ → Words
+lent c w = record { count = c; words = w }
+
 -- ---- rising, from neighbours
 
 -- s comes before the first of l, and each before the next

@@ -1,5 +1,6 @@
 // Names of any content, as lent words and a count: the one stored shape.
 #![tactic(auto)]
+
 ghost use Rattle.std.specs.Prelude.{◌≡◌, ◌≤◌, true, ◌&&◌, length, take, drop, nat_eq};
 ghost use Rattle.rules.specs.Limits.{narrow};
 ghost use Rattle.rules.specs.Strings.{less, str_of, is_word};

@@ -1,6 +1,6 @@
 -- `is_name_in` says whether the record of these words is the stored shape of a name: it asks the tests of `stored_test` in their order, and
 -- a record of fewer or more words is none. Assumes nothing.
-use Rattle.laws.proofs.Library.{needs, ◌≡◌, sym, ap, ◌∙◌, Bool, true, false, ◌&&◌, arith, ◌≤◌, le-leb, lt-leb, eqb, length}
+use Rattle.laws.proofs.Library.{◌≡◌, sym, ap, ◌∙◌, Bool, true, false, ◌&&◌, arith, ◌≤◌, le-leb, lt-leb, eqb, length}
 use Rattle.rules.specs.Limits.{narrow}
 use Rattle.rules.specs.Strings.{is_word}
 use Rattle.rules.specs.Names.{all, rising}
@@ -8,9 +8,8 @@ use Rattle.rules.specs.Stored.{strs_in, is_stored_name}
 use Rattle.rules.specs.declared.Words.{Words}
 use Rattle.laws.proofs.Tests.{not-true}
 use Rattle.names.proofs.Laws.{front, behind}
-use Rattle.names.proofs.Shape.{stored_test, stored_full}
-use Rattle.names.proofs.is_name_in.Statement.{statement}
-use Rattle.names.proofs.is_name_in.Tie as tie
+use Rattle.names.proofs.Shape.{lent, stored_test, stored_full}
+use Rattle.names.proofs.is_name_in.Goals as goal
 
 module _ (n : Words) where
   not_full : (length n.words ≡ 16 → ⊥) → false ≡ is_stored_name narrow n
@@ -30,29 +29,20 @@ module _ (n : Words) where
       (stored_test narrow n f
       ∙ rw (le-leb 1 n.count h, le-leb n.count 16 k) (ap (λ (x : Bool). x && all (eqb 0) (behind n)) e))
 
--- the record that the caller tells
-abbrev told : tie.Start → Words
-told g = record { count = g.args.count; words = g.args.words.now }
+pub returns-then-words-ne-STRINGS : goal.returns-then-words-ne-STRINGS
+returns-then-words-ne-STRINGS c = not_full (lent c.args.count c.args.words.now) (λ e. omega arith)
 
-returns : tie.Need-returns
-returns c = not_full (told c.before.before) (λ e. omega arith)
+pub returns-then-count-eq0 : goal.returns-then-count-eq0
+returns-then-count-eq0 c = none (lent c.args.count c.args.words.now) (omega arith) (omega arith)
 
-returns-2 : tie.Need-returns-2
-returns-2 c = none (told c.before.before.before) (omega arith) (omega arith)
+pub returns-then-count-gt-STRINGS : goal.returns-then-count-gt-STRINGS
+returns-then-count-gt-STRINGS c = many (lent c.args.count c.args.words.now) (omega arith) (omega arith) (omega arith)
 
-returns-3 : tie.Need-returns-3
-returns-3 c = many (told c.before.before.before.before) (omega arith) (omega arith) (omega arith)
+pub returns-then-rises : goal.returns-then-rises
+returns-then-rises c =
+    c.is_zero_from.ensures
+    ∙ within (lent c.args.count c.args.words.now) true (omega arith) (omega arith) (omega arith) (sym c.rises.ensures ∙ c.if-rises.true)
 
-returns-4 : tie.Need-returns-4
-returns-4 c =
-    let r = c.before.before in
-    c.is-zero-from.ensures
-    ∙ within (told r.before.before.before.before.before) true (omega arith) (omega arith) (omega arith) (sym r.rises.ensures ∙ c.before.if4.true)
-
-returns-5 : tie.Need-returns-5
-returns-5 c =
-    let r = c.before in
-    within (told r.before.before.before.before.before) false (omega arith) (omega arith) (omega arith) (sym r.rises.ensures ∙ c.if4.false)
-
-pub is_name_in_spec : {M : Type 1} → statement M
-is_name_in_spec = tie.close (tie.spec returns returns-2 returns-3 (λ c κs. search needs) (λ c κs. search needs) returns-4 returns-5)
+pub returns : goal.returns
+returns c =
+    within (lent c.args.count c.args.words.now) false (omega arith) (omega arith) (omega arith) (sym c.rises.ensures ∙ c.if-rises.false)
