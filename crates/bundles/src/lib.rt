@@ -1,5 +1,6 @@
 // Bundles: entries back to back, each one length byte and that many bytes of packed stamp. Entry k counts from 0.
 #![tactic(auto)]
+
 ghost use Rattle.std.specs.Prelude.{◌≡◌, drop};
 ghost use Rattle.rules.specs.Limits.{narrow};
 ghost use Rattle.rules.specs.Stored.{blank};

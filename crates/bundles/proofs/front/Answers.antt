@@ -1,12 +1,11 @@
 -- `bundles::front` meets its contract: the list from `at` on is the length byte there and what comes behind it, and the code's tests are
 -- those of that byte and that rest. Assumes nothing.
-use Rattle.laws.proofs.Library.{◌≡◌, refl, sym, ap, ◌∙◌, cond, List, ℕ, ◌+◌, ◌-◌, ◌≤◌, ◌<◌, add-sub_cancel_left, add-one, arith, needs, lt-ltb, le-ltb}
+use Rattle.laws.proofs.Library.{◌≡◌, refl, sym, ap, ◌∙◌, cond, List, ℕ, ◌+◌, ◌-◌, ◌≤◌, ◌<◌, add-sub_cancel_left, add-one, arith, lt-ltb, le-ltb}
 use Rattle.laws.proofs.Library.{length, get_or, take, drop, length-drop, drop_of_length-le, drop-cons}
 use Rattle.rules.specs.Limits.{narrow}
 use Rattle.rules.specs.Bundles.{part, no_entry, bad_entry, front_entry}
 use Rattle.rules.specs.declared.Refusal.TheVariants.{Malformed, Ended}
-use Rattle.bundles.proofs.front.Statement.{statement}
-use Rattle.bundles.proofs.front.Tie as tie
+use Rattle.bundles.proofs.front.Goals as goal
 
 module _ (b : List ℕ) (at : ℕ) where
   ended : length b ≤ at → no_entry Ended ≡ front_entry narrow (drop at b)
@@ -43,36 +42,23 @@ module _ (b : List ℕ) (at : ℕ) where
           ap (λ (j : ℕ). part (take j (drop (at + 1) b))) (add-sub_cancel_left (at + 1) n)
           ∙ sym (front_is ∙ rw (le-ltb n 3 k, le-ltb 117 n l, rest, le-ltb (length b - (at + 1)) n m))
 
-returns : tie.Need-returns
-returns c = (ended c.before.args.b.now c.before.args.at c.if1.true, tt, tt)
+pub returns-then-b-at : goal.returns-then-b-at
+returns-then-b-at c = (ended c.args.b.now c.args.at c.if-b-at.true, tt, tt)
 
-cast-n : tie.Need-overflow-cast-n
-cast-n c = omega (arith, c.shared-slice-known.given c.before.before.args.at)
+pub returns-then-n-lt-LEAST_BYTES : goal.returns-then-n-lt-LEAST_BYTES
+returns-then-n-lt-LEAST_BYTES c =
+    (too_small c.args.b.now c.args.at c.if-b-at.false (omega (arith, c.if-n-lt-LEAST_BYTES.true)), tt, tt)
 
-returns-2 : tie.Need-returns-2
-returns-2 c =
-    let e = c.before.before in
-    (too_small e.before.args.b.now e.before.args.at e.if1.false (omega (arith, c.if2.true)), tt, tt)
+pub returns-then-n-gt-BYTES : goal.returns-then-n-gt-BYTES
+returns-then-n-gt-BYTES c =
+    (too_large c.args.b.now c.args.at c.if-b-at.false (omega (arith, c.if-n-lt-LEAST_BYTES.false)) (omega (arith, c.if-n-gt-BYTES.true)), tt, tt)
 
-returns-3 : tie.Need-returns-3
-returns-3 c =
-    let e = c.before.before.before in
-    (too_large e.before.args.b.now e.before.args.at e.if1.false (omega (arith, c.before.if2.false)) (omega (arith, c.if3.true)), tt, tt)
+pub returns-then-b-from : goal.returns-then-b-from
+returns-then-b-from c =
+    (cut_short c.args.b.now c.args.at c.if-b-at.false (omega (arith, c.if-n-lt-LEAST_BYTES.false)) (omega (arith, c.if-n-gt-BYTES.false)) (omega (arith, c.if-b-from.true)), tt, tt)
 
-returns-4 : tie.Need-returns-4
-returns-4 c =
-    let t = c.before in
-    let e = t.before.before.before in
-    (cut_short e.before.args.b.now e.before.args.at e.if1.false (omega (arith, t.before.if2.false)) (omega (arith, t.if3.false)) (omega (arith, c.if4.true)), tt, tt)
-
-returns-5 : tie.Need-returns-5
-returns-5 c =
-    let t = c.before in
-    let e = t.before.before.before in
-    let m = c.if4.false in
-    let h = e.if1.false in
-    (fits e.before.args.b.now e.before.args.at h (omega (arith, t.before.if2.false)) (omega (arith, t.if3.false)) (omega arith), (omega arith, omega arith), refl)
-
-pub front_spec : {M : Type 1} → statement M
-front_spec = tie.close (tie.spec returns (λ c. search needs) cast-n returns-2 returns-3 (λ c. search needs) (λ c. search needs) returns-4
-    (λ c. search needs) returns-5)
+pub returns : goal.returns
+returns c =
+    let m = c.if-b-from.false in
+    let h = c.if-b-at.false in
+    (fits c.args.b.now c.args.at h (omega (arith, c.if-n-lt-LEAST_BYTES.false)) (omega (arith, c.if-n-gt-BYTES.false)) (omega arith), (omega arith, omega arith), refl)
