@@ -1,6 +1,7 @@
 // A whole input, piece after piece. Between two pieces stand the line that is unfinished and the table; each piece answers the lines that
 // end in it. However an input is cut, the answers are the same.
 #![tactic(auto)]
+
 ghost use Rattle.std.specs.Prelude.{◌≡◌};
 ghost use Rattle.inputs.specs.Pieces.{started, room_for, fed, fed_commands, closed, closed_commands};
 

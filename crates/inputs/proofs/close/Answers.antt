@@ -1,10 +1,9 @@
 -- `inputs::close` meets its contract: nothing is left to answer, or the newline that the last line lacks is fed. Assumes nothing.
-use Rattle.laws.proofs.Library.{needs, eq-eqb, ne_eqb, ◌≡◌, true, List, [], ◌∷◌, ℕ}
+use Rattle.laws.proofs.Library.{eq-eqb, ne_eqb, ◌≡◌, true, List, [], ◌∷◌, ℕ}
 use Rattle.inputs.specs.declared.Trace.{Trace}
 use Rattle.inputs.specs.declared.Fed.{Fed}
 use Rattle.inputs.specs.Pieces.{fed, fed_commands, closed, closed_commands}
-use Rattle.inputs.proofs.close.Statement.{statement}
-use Rattle.inputs.proofs.close.Tie as tie
+use Rattle.inputs.proofs.close.Goals as goal
 
 module _ (s : Trace) (commands : List ℕ) where
   closes_whole : s.line.len ≡ 0
@@ -17,15 +16,9 @@ module _ (s : Trace) (commands : List ℕ) where
   unfolding closed closed_commands
   closes_last h r b re be = let e = ne_eqb s.line.len 0 h in (rw e re, rw e be)
 
-returns : tie.Need-returns
-returns c = let g = c.before.before.args in closes_whole g.trace g.commands.now c.if1.true
+pub returns-then-n-eq0 : goal.returns-then-n-eq0
+returns-then-n-eq0 c = closes_whole c.args.trace c.args.commands.now c.if-n-eq0.true
 
-returns-2 : tie.Need-returns-2
-returns-2 c =
-    let f = c.before.before in
-    let e = f.before.before.before in
-    let g = e.before.before.args in
-    closes_last g.trace g.commands.now e.if1.false f.feed.result _ f.feed.ensures.0 f.feed.ensures.1
-
-pub close_spec : {M : Type 1} → statement M
-close_spec = tie.close (tie.spec returns (λ c. search needs) (λ c κs. search needs) (λ c. search needs) returns-2)
+pub returns : goal.returns
+returns c =
+    closes_last c.args.trace c.args.commands.now c.if-n-eq0.false c.feed.result _ c.feed.ensures.0 c.feed.ensures.1
