@@ -1,15 +1,11 @@
 -- A record is absent where both counts are 0, and every word: what is asked of numbers one by one is asked of the record. Assumes nothing.
-use Rattle.laws.proofs.Library.{◌≡◌, refl, sym, ap, ap₂, ◌∙◌, Bool, true, false, ◌&&◌, and-false, List, [], ◌∷◌, map, ℕ, eqb-true, eqb-false, eq-eqb}
-use Rattle.laws.proofs.Library.{ne_eqb, eqb, length, replicate, length-map}
+use Rattle.laws.proofs.Library.{◌≡◌, refl, sym, ap, ap₂, ◌∙◌, Bool, true, false, ◌&&◌, and-false, List, [], ◌∷◌, ℕ, eqb-true, eqb-false, eq-eqb}
+use Rattle.laws.proofs.Library.{ne_eqb, eqb, length, replicate}
 use Rattle.rules.specs.Limits.{narrow}
 use Rattle.rules.specs.Names.{all}
 use Rattle.rules.specs.Stored.{same_numbers, same_words, same_record, words_of, stored, blank, absent}
 use Rattle.rules.specs.declared.Record.{Record}
 use Rattle.rules.specs.declared.Words.{Words}
-
--- the length of a field that is an array, as `good` gives it
-pub field_length : (ws : List ℕ) {n : ℕ} → length (map {A = ℕ} {B = ℕ} (λ v. v) ws) ≡ n → length ws ≡ n
-field_length ws e = sym (length-map ws (λ (v : ℕ). v)) ∙ e
 
 eqb_turned : (a b : ℕ) → eqb a b ≡ eqb b a
 eqb_turned a b = by (eqb b a) refl

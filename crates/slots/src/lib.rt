@@ -2,6 +2,7 @@
 // total: it takes records of any content, and one that refuses gives back what it got. Answers are numbers, as slot_number of
 // the rules says; a comparison is the standing itself.
 #![tactic(auto)]
+
 ghost use Rattle.std.specs.Prelude.{◌≡◌, []};
 ghost use Rattle.rules.specs.Limits.{narrow};
 ghost use Rattle.rules.specs.Refusals.{first};

@@ -1,5 +1,5 @@
 -- `slots::fresh_slot` meets its contract: the word of the empty string is 0, so one string in each of a blank record's names is [e|e]. Assumes nothing.
-use Rattle.laws.proofs.Library.{needs, arith, eq-eqb, ne_eqb, ◌≡◌, refl, ap, ◌∙◌}
+use Rattle.laws.proofs.Library.{arith, eq-eqb, ne_eqb, ◌≡◌, refl, ap, ◌∙◌}
 use Rattle.rules.specs.Limits.{narrow}
 use Rattle.rules.specs.Stamps.{start}
 use Rattle.rules.specs.Stored.{stored, blank, words_of}
@@ -7,8 +7,7 @@ use Rattle.rules.specs.Strings.{word_of, aligned, value_from}
 use Rattle.rules.specs.declared.Words.{Words}
 use Rattle.rules.specs.declared.Record.{Record}
 use Rattle.slots.specs.Gates.{fresh_slot}
-use Rattle.slots.proofs.fresh_slot.Statement.{statement}
-use Rattle.slots.proofs.fresh_slot.Tie as tie
+use Rattle.slots.proofs.fresh_slot.Goals as goal
 
 -- both names of a record get one string
 abbrev one : Record → Record
@@ -18,17 +17,12 @@ one_blank : one (blank narrow) ≡ stored narrow start
 unfolding blank stored words_of word_of aligned value_from
 one_blank = refl
 
-returns : tie.Need-returns
+pub returns-then-i-eq0 : goal.returns-then-i-eq0
+unfolding fresh_slot
+returns-then-i-eq0 c =
+    simp (eq-eqb c.args.i 0 (omega arith)) (ap one c.blank-r.ensures ∙ one_blank)
+
+pub returns : goal.returns
 unfolding fresh_slot
 returns c =
-    let b = c.before.before in
-    simp (eq-eqb b.before.args.i 0 (omega arith)) (ap one b.blank.ensures ∙ one_blank)
-
-returns-2 : tie.Need-returns-2
-unfolding fresh_slot
-returns-2 c =
-    let b = c.before in
-    simp (ne_eqb b.before.args.i 0 (λ e. omega arith)) b.blank.ensures
-
-pub fresh_slot_spec : {M : Type 1} → statement M
-fresh_slot_spec = tie.close (tie.spec (λ c κs. search needs) returns returns-2)
+    simp (ne_eqb c.args.i 0 (λ e. omega arith)) c.blank-r.ensures
