@@ -1,6 +1,7 @@
 // Passes over the table, slot by slot: what a look at one record makes of the search for an absent slot, and for a copy that makes
 // another obsolete. A look is total: it takes any numbers and records. Answers are numbers, as spared_number of the rules says.
 #![tactic(auto)]
+
 ghost use Rattle.std.specs.Prelude.{◌≡◌, ◌≤◌};
 ghost use Rattle.rules.specs.Values.{compared_of};
 ghost use Rattle.scans.specs.Scans.{span_of, absent_or_next, weighed, weigh_start, onward_to, found_or, spare_code, meet_code};
