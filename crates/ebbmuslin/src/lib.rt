@@ -1,5 +1,6 @@
 // The C synchroniser's side: the packed calls over numbers and byte slices. include/ebbmuslin.h declares them for C.
 #![tactic(auto)]
+
 ghost use Rattle.std.specs.Prelude.{◌≡◌};
 ghost use Rattle.rules.specs.Limits.{narrow};
 ghost use Rattle.rules.specs.Packed.{packed_update, packed_fork, packed_join, packed_compare, written_number, compared_number};
