@@ -1,4 +1,3 @@
 -- The record as the walks take it, stores of a record's words, and that each contract leaves one answer.
-pub mod Slots
 pub mod Whole
 pub mod Unique

@@ -1,5 +1,9 @@
 -- Each public contract is an equation for the result and for what was lent, so it leaves one answer. Assumes nothing.
-use Rattle.laws.proofs.Library.{refl}
+use Rattle.laws.proofs.Library.{◌≡◌, refl, List, ℕ}
+use denote.Ref.{Bor}
+use Rattle.rules.specs.Limits.{narrow}
+use Rattle.rules.specs.Packed.{Side, the_first, the_second, neither, side_of, packed_compare}
+use Rattle.calls.specs.Keep.{kept_is}
 use Rattle.rules.specs.OneAnswer.{OneAnswer}
 use Rattle.laws.proofs.Contracts.{agree, both_say}
 use Rattle.probes.specs.contracts.probe_fresh
@@ -12,6 +16,7 @@ use Rattle.probes.specs.contracts.probe_read
 use Rattle.probes.specs.contracts.probe_write
 use Rattle.probes.specs.contracts.probe_entry
 use Rattle.probes.specs.contracts.probe_keep
+use Rattle.probes.specs.contracts.probe_kept
 use Rattle.probes.specs.contracts.probe_is_lawful
 use Rattle.probes.specs.contracts.probe_updated
 use Rattle.probes.specs.contracts.probe_forked
@@ -49,6 +54,17 @@ probe_entry_one_answer M 𝓤 𝓛 mem run = (refl, λ κs a g h r s v w. both_s
 
 pub probe_keep_one_answer : OneAnswer probe_keep.ended (λ M 𝓤 𝓛. probe_keep.clauses 𝓛) (λ M 𝓤 𝓛. probe_keep.spec 𝓛)
 probe_keep_one_answer M 𝓤 𝓛 mem run = (refl, λ κs a g h r s v w. both_say 𝓤 (λ e f. (agree e f, refl)))
+
+kept_same : (d : Side) (s t p q : Bor (List ℕ)) → kept_is d s t p → kept_is d s t q → p ≡ q
+kept_same the_first s t p q e f = agree e f
+kept_same the_second s t p q e f = agree e f
+kept_same neither s t p q e f = λ i. record { ref_ptr = agree e.0 f.0 i; now = agree e.1 f.1 i }
+
+pub probe_kept_one_answer : OneAnswer probe_kept.ended (λ M 𝓤 𝓛. probe_kept.clauses 𝓛) (λ M 𝓤 𝓛. probe_kept.spec 𝓛)
+probe_kept_one_answer M 𝓤 𝓛 mem run = (
+  refl,
+  λ κs a g h r s v w. both_say 𝓤 (λ e f. (refl, λ i. (tt, (tt, (kept_same (side_of (packed_compare narrow a.0.now a.1.0.now)) a.0 a.1.0 v.1.1.0 w.1.1.0 e f i, tt))))),
+)
 
 pub probe_is_lawful_one_answer : OneAnswer probe_is_lawful.ended (λ M 𝓤 𝓛. probe_is_lawful.clauses 𝓛) (λ M 𝓤 𝓛. probe_is_lawful.spec 𝓛)
 probe_is_lawful_one_answer M 𝓤 𝓛 mem run = (refl, λ κs a g h r s v w. both_say 𝓤 (λ e f. (agree e f, refl)))

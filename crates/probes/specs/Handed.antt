@@ -3,7 +3,6 @@ use Rattle.std.specs.Prelude.{List, [], ◌∷◌, ◌++◌, ℕ, ◌+◌, get_o
 use Rattle.std.proofs.Math.Seq.{slice}
 use Rattle.rules.specs.Refusals.{number}
 use Rattle.rules.specs.Packed.{Side, the_first, the_second, neither}
-use Rattle.rules.specs.declared.Words.{Words}
 use Rattle.rules.specs.declared.Record.{Record}
 use Rattle.rules.specs.declared.Standing.{Standing}
 use Rattle.rules.specs.declared.Answer.{Answer}

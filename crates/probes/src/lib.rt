@@ -2,6 +2,7 @@
 // the functions by value with a record as 34 words, of the update name and of the id a count and 16. An answer is a number: 0, a verdict's
 // or how many bytes, or 1,000 plus the refusal's. Nothing of the product uses this crate.
 #![tactic(auto)]
+
 mod words;
 
 ghost use Rattle.std.specs.Prelude.{◌≡◌, [], length};
@@ -12,10 +13,10 @@ ghost use Rattle.rules.specs.Values.{updated, forked, joined, compared, compared
 ghost use Rattle.rules.specs.Packed.{read_stamp, written_stamp, packed_compare, packed_standing, side_of, written_number, compared_number};
 ghost use Rattle.rules.specs.Bundles.{read_entry};
 ghost use Rattle.rules.specs.Tables.{make_fresh, update_at, fork_at, join_at, compare_at, spare_at, slot_number, spared_number};
+ghost use Rattle.calls.specs.Keep.{kept_is};
 ghost use Rattle.probes.specs.Handed.{record_in, record_words, done_number, kept_bytes, standing_words};
 
 use answers::{compared_code, refusal_code, written_code};
-use libc::STDOUT_FILENO;
 use rules::{Answer, Given, Record, Standing};
 use words::{put_record, record_in};
 
@@ -94,14 +95,21 @@ pub extern "C" fn probe_entry(b: &[u8], k: usize, out: &mut [u64; 34]) -> u64
     give(bundles::entry(b, k), out)
 }
 
-// `calls::keep`: how many bytes it gives back. They go to C's `write`, which sees where they stand.
+// `calls::keep`: how many bytes it gives back.
 #[unsafe(no_mangle)]
 pub extern "C" fn probe_keep<'a>(s: &'a [u8], t: &'a [u8]) -> u64
     ensures { result ≡ length (kept_bytes (side_of (packed_compare narrow s.now t.now)) s.now t.now) }
 {
     let given = calls::keep(s, t);
-    libc::write(STDOUT_FILENO, given);
     given.len() as u64
+}
+
+// `calls::keep`: the bytes it gives back, into out, so that C sees where they stand.
+#[unsafe(no_mangle)]
+pub extern "C" fn probe_kept<'a>(s: &'a [u8], t: &'a [u8], out: &mut &'a [u8])
+    ensures { kept_is (side_of (packed_compare narrow s.now t.now)) s.entry t.entry out.new }
+{
+    *out = calls::keep(s, t);
 }
 
 // `stamps::is_lawful`.

@@ -1,20 +1,16 @@
 -- `probes::probe_stood` meets its contract: it compares both packed stamps. Assumes nothing.
-use Rattle.laws.proofs.Library.{needs, ap, ◌∙◌}
+use Rattle.laws.proofs.Library.{ap, ◌∙◌}
 use Rattle.rules.specs.Limits.{narrow}
 use Rattle.rules.specs.Values.{compared_of}
 use Rattle.rules.specs.Packed.{compared_number}
 use Rattle.rules.specs.declared.Standing.{Standing}
 use Rattle.laws.proofs.Standing.{compared_packed}
 use Rattle.probes.specs.Handed.{standing_words}
-use Rattle.probes.proofs.probe_stood.Statement.{statement}
-use Rattle.probes.proofs.probe_stood.Tie as tie
+use Rattle.probes.proofs.probe_stood.Goals as goal
 
-returns : tie.Need-returns
+pub returns : goal.returns
 returns c =
-    let is = c.before.before.compare.ensures in (
+    let is = c.compare.ensures in (
       c.stood.ensures.0 ∙ ap (λ (s : Standing). compared_number (compared_of s)) is ∙ ap compared_number (compared_packed narrow _ _),
       c.stood.ensures.1 ∙ ap standing_words is,
     )
-
-pub probe_stood_spec : {M : Type 1} → statement M
-probe_stood_spec = tie.close (tie.spec (λ c κs. search needs) (λ c κs. search needs) returns)
