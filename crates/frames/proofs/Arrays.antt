@@ -6,7 +6,7 @@ use Prim.Native.Nat.{ℕ, zero, suc, ◌+◌, ◌^◌}
 use lib.Dec.{T, ltb}
 use lib.ListN.{length}
 use seplogic.Ra.Ura.{Ura}
-use seplogic.Ra.TreeShare.{full_share}
+use base.Fraction.{full_share}
 use mir.Syntax.{Sym, Tys, Ty, ty_struct, ty_array, field, place, copy}
 use mir.Fields.{get_v, set_v}
 use mir.Val.{Val, Vals, vstruct}
@@ -21,6 +21,7 @@ use types.Part.{Part, look_in, sub, whole}
 use types.Run.{Opd, look, load, from, stop, fld}
 use types.Share.{arr_parts}
 use denote.Array.{Array, array_vals, Array-Tells, Array-Makes, Array-Lawful, array_copy}
+use denote.Copied.{Array-Copied}
 use denote.ArrayMemory.{Single, Array-apart, Array-whole}
 use denote.Exit.{yes, unchanged}
 use denote.Index.{row}
@@ -41,6 +42,7 @@ module _ (P : Plainly) (n : ℕ) (st : (Array P.row n).exit yes ≡ unchanged) (
     makes = λ 𝓛. Array-Makes 𝓛 P.row (P.makes 𝓛) n;
     lawful = λ 𝓛. Array-Lawful 𝓛 P.row (P.lawful 𝓛) n;
     copies = λ 𝓛. array_copy 𝓛 P.row (P.copies 𝓛) n;
+    copied = λ 𝓛. Array-Copied 𝓛 P.row (P.copied 𝓛) (subst Single (sym P.lies) tt) n;
     still = st;
     small = sm;
   }

@@ -8,7 +8,7 @@ use Prim.Native.Nat.{ℕ, zero, ◌+◌, ◌*◌, ◌<◌, ◌^◌}
 use lib.Dec.{T, ltb, leb, lit<}
 use lib.ListN.{length, get_or, set}
 use seplogic.Ra.Ura.{Ura}
-use seplogic.Ra.TreeShare.{full_share}
+use base.Fraction.{full_share}
 use mir.Syntax.{Ty, ty_int, ty_ptr, w64, Body, place, seq, assign, op2, mul, unsigned, offset, copy, int, int_big, rv_opd, Opd as Operand, field, deref}
 use mir.Syntax.{Lifetime, Mutability, ty_ref, addr_of, aggregate}
 use mir.Syntax.{Rv as RValue}

@@ -8,13 +8,13 @@ use mathlib.Core.Option.{Option, none, some}
 use Prim.Native.Nat.{ℕ, zero, ◌+◌}
 use lib.Dec.{T}
 use seplogic.Ra.Ura.{Ura}
-use seplogic.Ra.TreeShare.{full_share}
+use base.Fraction.{full_share}
 use mir.Syntax.{cond, skip, Sym, Tys, ty_struct, field, Ty, Local, Body, Fn, place, copy, assign, seq, Opd as Operand, Rv as RValue}
 use mir.Fields.{get_v, set_v}
 use mir.Val.{vbool, Vals, vstruct, Val, WT, has_ty}
 use base.Logic.{assoc', SProp, ent, sep, emp, wand, all, id⊢, via, comm∗, mono_l, mono_r, mono∗, emp∗, snd∗, wand_i, all_i, all_e, guard_i}
 use base.Fml.{Fml, Share, ftrue, ffalse, feq, flt, fsep, fand, for, fwand, fex, fall, fupd, fat, froom, fdies, flft, fdead, fobs, fauth, fres, fbor, fobor}
-use base.Fml.{flent, fshr_bor}
+use base.Fml.{flent, fshr_bor, fhide, fleft, fown, finv, fnamed, ftok, fkid, fme, fsent}
 use prog.Wp.{Wp, after_seq, Env, Calls, Loops, WpFn, alloc, pass, release, spot_of, ty_of, params}
 use types.Logic.{Logic, sem}
 use contract.Monad.{top}
@@ -73,6 +73,15 @@ module _ {M : Type 1} {𝓤 : Ura M} (𝓛 : Logic 𝓤) where
   formula (fobor κ q P) = none_of (‵ (fobor κ q P))
   formula (flent κ P) = none_of (‵ (flent κ P))
   formula (fshr_bor κ F) = none_of (‵ (fshr_bor κ F))
+  formula (fhide P) = none_of (‵ (fhide P))
+  formula (fleft q ω τs b o) = none_of (‵ (fleft q ω τs b o))
+  formula (fown R γ u) = none_of (‵ (fown R γ u))
+  formula (finv P) = none_of (‵ (finv P))
+  formula (fnamed n P) = none_of (‵ (fnamed n P))
+  formula (ftok ψ) = none_of (‵ (ftok ψ))
+  formula (fkid h n) = none_of (‵ (fkid h n))
+  formula (fme n) = none_of (‵ (fme n))
+  formula (fsent n) = none_of (‵ (fsent n))
 
   abbrev pub cell : (i : Item 𝓤) → (k : Key) × ent 𝓤 (mean 𝓛 i) (empties k)
   cell (‵ F) = formula F

@@ -6,11 +6,11 @@ use Prim.Native.Nat.{ℕ, zero, suc}
 use lib.Dec.{T}
 use lib.ListN.{length}
 use seplogic.Ra.Ura.{Ura}
-use seplogic.Ra.TreeShare.{full_share}
-use mir.Syntax.{Name, Ty, Body, place, copy, seq, call, named, Opd as Operand}
+use base.Fraction.{full_share}
+use mir.Syntax.{Callee, Ty, Body, place, copy, seq, call, named, Opd as Operand}
 use mir.Val.{Val, WT, has_ty}
 use base.Logic.{ent, sep, via, id⊢, ex_e, snd∗}
-use base.Fml.{Lft, GName, Share, ftrue, fat, flft, flent}
+use base.Fml.{Lft, GName, Share, ftrue, fat, flft, flent, Incl-refl}
 use prog.Wp.{Env, Calls, Loops, spot_of}
 use types.Logic.{Logic, sem}
 use contract.Lifetimes.{Lfts}
@@ -25,7 +25,7 @@ use types.Share.{arr_parts}
 use denote.RattleType.{owns}
 use denote.Laws.{Is, shows, Ises, valss, owns_make}
 use denote.Memory.{mem, shares}
-use denote.Ref.{MutBor}
+use denote.Ref.{Bor, MutBor}
 use denote.Slice.{slice_val, MutSlice, ShrSlice, Room}
 use denote.Lend.{Held, lends_slice, lends_shr_slice, slice_back}
 use denote.Index.{row, whole_in, whole_out}
@@ -87,7 +87,7 @@ module _ {M : Type 1} {𝓤 : Ura M} {𝓛 : Logic 𝓤} {K : Type 0} {Γ : List
   -- the run is entry r: it is lent as a `&mut` to the function, and comes back as the list that the function leaves
   open 𝓛 use {H}
 
-  pub hands : K → FmC 𝓤 H 𝓛.laws C → {g : Name} {xs : List Operand} {k : ℕ} {rest : Body} (P : Plainly) (Ps : List Plainly) (Q : Plainly) (φ : Says P Ps Q)
+  pub hands : K → FmC 𝓤 H 𝓛.laws C → {g : Callee} {xs : List Operand} {k : ℕ} {rest : Body} (P : Plainly) (Ps : List Plainly) (Q : Plainly) (φ : Says P Ps Q)
       → Triple 𝓤 (C g) (Changes 𝓛 P Ps Q φ)
       → (ys : List P.row.Denot) (b o : ℕ) → Room P.row (length ys) → (r : ℕ) → nth 𝓛 r Γ ≡ ‵ (row P.row full_share ys b o)
       → (a : (κs : Lfts 1) → Ins 1 κs Ps) → ((κs : Lfts 1) → Good 1 κs Ps (a κs)) →
@@ -115,12 +115,12 @@ module _ {M : Type 1} {𝓤 : Ura M} {𝓛 : Logic 𝓤} {K : Type 0} {Γ : List
           use1 𝓛 (exists (λ (ws : Lasts (lent P Ps Q) ((α ∷ []), tt) (ref 𝓛 P Ps Q φ b o ys a (α ∷ []) γ, a ((α ∷ []), tt))). ‵
           (lasts (lent P Ps Q) ((α ∷ []), tt) (ref 𝓛 P Ps Q φ b o ys a (α ∷ []) γ, a ((α ∷ []), tt)) ws)
           ⊛ raw (fact 𝓤 (φ ((α ∷ []), tt) ys (a ((α ∷ []), tt)) u ws.0)))) (id⊢ 𝓤 _) $ pick t (λ ws. split t $ move t (1 ∷ []) $
-          heard t (φ ((α ∷ []), tt) ys (a ((α ∷ []), tt)) u ws.0) (λ said. fsplit t $ fsplit t $
-          move t (3 ∷ []) $ split t $ move t (1 ∷ []) $ facts t Q.row (Is Q.row) (shows 𝓛 Q.row) u (v ∷ []) (λ is. split t $ lft_end t tt $
-          move t (0 ∷ 5 ∷ 2 ∷ []) $
+          heard t (φ ((α ∷ []), tt) ys (a ((α ∷ []), tt)) u ws.0) (λ said. fsplit t $ fsplit t $ fsplit t $
+          move t (4 ∷ []) $ split t $ move t (1 ∷ []) $ facts t Q.row (Is Q.row) (shows 𝓛 Q.row) u (v ∷ []) (λ is. split t $ lft_end t tt $
+          move t (0 ∷ 6 ∷ 2 ∷ []) $
           use3 𝓛 (later (‵ ((Arr (mem P.row) (length ys)).own_at ws.0 b o))) (slice_back 𝓛 P.row (α ∷ []) γ ws.0 (length ys) b o) $ await t tt $
           fsplit t $ feq_l t (λ len.
-          use1 𝓛 (‵ (row P.row full_share ws.0 b o)) (whole_out 𝓛 P.row ws.0 b o) $ move t (1 ∷ 2 ∷ 3 ∷ []) $ drop t $ drop t $ drop t $
+          use1 𝓛 (‵ (row P.row full_share ws.0 b o)) (whole_out 𝓛 P.row ws.0 b o) $ move t (1 ∷ 2 ∷ 3 ∷ 4 ∷ []) $ drop t $ drop t $ drop t $ drop t $
           back ws.0 u v is (go ((α ∷ []), tt) u ws.0 len said))))))
         where
           back : (zs : List P.row.Denot) (u : Q.row.Denot) (v : Val) (is : Is Q.row u (v ∷ []))
@@ -152,9 +152,9 @@ module _ {M : Type 1} {𝓤 : Ura M} (𝓛 : Logic 𝓤) (P : Plainly) (Ps : Lis
   abbrev pub Answers : Contract 𝓤
   Answers = triple_of 𝓛 (shown P Ps Q).signature (closing 𝓛 (shown P Ps Q) (showing P Ps Q 𝓛 φ))
 
-  module _ (b o : ℕ) (ys : List P.row.Denot) (a : (κs : Lfts 1) → Ins 1 κs Ps) (κ : Lft) (γ : GName) where
-    abbrev at : MutBor (List P.row.Denot)
-    at = record { ref_ptr = (b, o); ghost_name = γ; now = ys }
+  module _ (b o : ℕ) (ys : List P.row.Denot) (a : (κs : Lfts 1) → Ins 1 κs Ps) (κ : Lft) where
+    abbrev at : Bor (List P.row.Denot)
+    at = record { ref_ptr = (b, o); now = ys }
 
     abbrev for : Answers.Ghost
     for = (
@@ -185,7 +185,7 @@ module _ {M : Type 1} {𝓤 : Ura M} {𝓛 : Logic 𝓤} {K : Type 0} {Γ : List
   -- the run, or a share of it, is entry r: it is lent as a `&` to the function, and comes back as it was
   open 𝓛 use {H}
 
-  pub asks : K → FmC 𝓤 H 𝓛.laws C → {g : Name} {xs : List Operand} {k : ℕ} {rest : Body} (P : Plainly) (Ps : List Plainly) (Q : Plainly) (φ : Tells P Ps Q)
+  pub asks : K → FmC 𝓤 H 𝓛.laws C → {g : Callee} {xs : List Operand} {k : ℕ} {rest : Body} (P : Plainly) (Ps : List Plainly) (Q : Plainly) (φ : Tells P Ps Q)
       → Triple 𝓤 (C g) (Answers 𝓛 P Ps Q φ)
       → (p : Share) (ys : List P.row.Denot) (b o : ℕ) → Room P.row (length ys) → (r : ℕ) → nth 𝓛 r Γ ≡ ‵ (row P.row p ys b o)
       → (a : (κs : Lfts 1) → Ins 1 κs Ps) → ((κs : Lfts 1) → Good 1 κs Ps (a κs)) →
@@ -199,23 +199,23 @@ module _ {M : Type 1} {𝓤 : Ura M} {𝓛 : Logic 𝓤} {K : Type 0} {Γ : List
   asks t fm {g} {xs} {k} {rest} P Ps Q φ met p ys b o gn r at-r a good os s e go =
       move t (r ∷ []) $ subst (λ (i : Item 𝓤). Seq K 𝓛 (i ∷ del 𝓛 r Γ) (runs C Λ E (seq (call g xs (place k [])) rest) q)) (sym at-r)
       (feq_i t ℕ (length ys) (length ys) refl $ fjoin t $ lft_new t tt (λ α. move t (1 ∷ []) $
-      use1 𝓛 (later (exists (λ (γ : GName). ‵ ((ShrSlice (named 0) (α ∷ []) P.row).own_val (at 𝓛 P Ps Q φ b o ys a (α ∷ []) γ)
-      (slice_val (b, o) (length ys) ∷ []))
-      ⊛ ‵ (flent (α ∷ []) ((arr_parts (shares P.row) (length ys)).part p ys b o)))))
-      (lends_shr_slice 𝓛 P.row (named 0) (α ∷ []) p ys b o gn) $ await t tt $ pick t (λ γ. split t $ move t (2 ∷ 0 ∷ []) $
-      use2 𝓛 (raw ((Answers 𝓛 P Ps Q φ).pre (for 𝓛 P Ps Q φ b o ys a (α ∷ []) γ)))
-      (goes_seen 𝓛 P Ps Q φ b o ys a (α ∷ []) γ (good ((α ∷ []), tt))) $
-      calls_at t fm (Answers 𝓛 P Ps Q φ) met (for 𝓛 P Ps Q φ b o ys a (α ∷ []) γ) (os ((α ∷ []), tt) _ _) (λ v. landed α γ v))))
+      use2 𝓛 (later ((‵ ((ShrSlice (named 0) (α ∷ []) P.row).own_val (at 𝓛 P Ps Q φ b o ys a (α ∷ [])) (slice_val (b, o) (length ys) ∷ []))
+      ⊛ ‵ (flent (α ∷ []) ((arr_parts (shares P.row) (length ys)).part p ys b o))) ⊛ ‵ (flft (α ∷ []) full_share)))
+      (lends_shr_slice 𝓛 P.row (named 0) (α ∷ []) p ys b o gn (α ∷ []) ((P.copied 𝓛).shares p (α ∷ [])) ((α ∷ [], full_share) ∷ [])
+      (Incl-refl (α ∷ [])) (Incl-refl (α ∷ []))) $ await t tt $ split t $ split t $ move t (2 ∷ 0 ∷ []) $
+      use2 𝓛 (raw ((Answers 𝓛 P Ps Q φ).pre (for 𝓛 P Ps Q φ b o ys a (α ∷ []))))
+      (goes_seen 𝓛 P Ps Q φ b o ys a (α ∷ []) (good ((α ∷ []), tt))) $
+      calls_at t fm (Answers 𝓛 P Ps Q φ) met (for 𝓛 P Ps Q φ b o ys a (α ∷ [])) (os ((α ∷ []), tt) _ _) (λ v. landed α v)))
     where
-      landed : (α : ℕ) (γ : GName) (v : Val) → Seq K 𝓛 (raw ((Answers 𝓛 P Ps Q φ).post (for 𝓛 P Ps Q φ b o ys a (α ∷ []) γ) v) ∷ ‵
+      landed : (α : ℕ) (v : Val) → Seq K 𝓛 (raw ((Answers 𝓛 P Ps Q φ).post (for 𝓛 P Ps Q φ b o ys a (α ∷ [])) v) ∷ ‵
           (flent (α ∷ []) ((arr_parts (shares P.row) (length ys)).part p ys b o)) ∷ del 𝓛 r Γ)
           (lands C Λ E (place k []) v rest q)
-      landed α γ v =
+      landed α v =
           use1 𝓛 (later (exists (λ (u : Q.row.Denot). ((‵ (flft (α ∷ []) full_share) ⊛ ‵ ftrue) ⊛ ‵ (Q.row.own_val u (v ∷ [])))
-          ⊛ raw (ensured 𝓛 (shown P Ps Q) (showing P Ps Q 𝓛 φ) ((α ∷ []), tt) (at 𝓛 P Ps Q φ b o ys a (α ∷ []) γ, a ((α ∷ []), tt)) tt u))))
+          ⊛ raw (ensured 𝓛 (shown P Ps Q) (showing P Ps Q 𝓛 φ) ((α ∷ []), tt) (at 𝓛 P Ps Q φ b o ys a (α ∷ []), a ((α ∷ []), tt)) tt u))))
           (id⊢ 𝓤 _) $ await t tt $ pick t (λ u. split t $ move t (1 ∷ []) $
           use1 𝓛 (raw (fact 𝓤 (φ ((α ∷ []), tt) ys (a ((α ∷ []), tt)) u))) (ex_e 𝓤 _
-          (λ ws. snd∗ 𝓤 (sem 𝓛 (lasts (shown P Ps Q) ((α ∷ []), tt) (at 𝓛 P Ps Q φ b o ys a (α ∷ []) γ, a ((α ∷ []), tt)) ws))
+          (λ ws. snd∗ 𝓤 (sem 𝓛 (lasts (shown P Ps Q) ((α ∷ []), tt) (at 𝓛 P Ps Q φ b o ys a (α ∷ []), a ((α ∷ []), tt)) ws))
           (fact 𝓤 (φ ((α ∷ []), tt) ys (a ((α ∷ []), tt)) u)))) $
           heard t (φ ((α ∷ []), tt) ys (a ((α ∷ []), tt)) u) (λ said. split t $ move t (1 ∷ []) $
           facts t Q.row (Is Q.row) (shows 𝓛 Q.row) u (v ∷ []) (λ is. split t $ lft_end t tt $ move t (0 ∷ 2 ∷ []) $ lent_back t tt $

@@ -6,11 +6,11 @@ use mathlib.Core.List.{List, [], ◌∷◌, ◌++◌}
 use Prim.Native.Nat.{ℕ}
 use lib.ListN.{length}
 use seplogic.Ra.Ura.{Ura}
-use seplogic.Ra.TreeShare.{full_share}
+use base.Fraction.{full_share}
 use mir.Syntax.{Local, Fn, Ty, named, mut, imm, ty_ref, local, value_local}
 use mir.Val.{Val}
 use base.Logic.{SProp, ent, sep, emp, ex, via, id⊢, comm∗, mono_r, fst∗, ex∗, emp∗}
-use base.Fml.{Fml, GName, Share, ftrue, fsep, flft, fobs, fauth, fbor, fobor, fshr_bor}
+use base.Fml.{Fml, GName, Share, ftrue, fsep, flft, fobs, fauth, fbor, fobor, fhide}
 use prog.Wp.{WpFn, Tables}
 use types.Logic.{Logic, sem}
 use contract.Lifetimes.{Lfts, Shares}
@@ -21,11 +21,12 @@ use types.Kit.{fsplit, fjoin, frame, use0, use1, later, await, updating, now as 
 use denote.Exit.{yes, Exit, Last, left}
 use denote.RattleType.{Valss, owns}
 use denote.Shadow.{pure_i}
-use denote.Laws.{Is, shows, valss}
-use denote.Ref.{Bor}
+use denote.Laws.{Is, valss}
+use denote.Ref.{Bor, MutBor}
 use denote.Slice.{slice_ty, slice_val, heres, Room, shr_slice_vals, mut_slice_vals, mut_slice_Tells, shr_slice_Tells, mut_slice_at, coded_holeys}
-use types.Share.{arr_parts}
-use denote.Memory.{pointee, shares}
+use denote.Slice.{elements_shared}
+use denote.Opens.{Shut as WayBack}
+use denote.Memory.{pointee}
 use denote.Lend.{Held}
 use denote.Index.{row, opens_slice, closes_slice, looks_slice, shuts_slice}
 use denote.Signature.{plain, types_at, mut_slice_of, shr_slice_of}
@@ -135,14 +136,14 @@ module _ (P : Plainly) (Ps : List Plainly) (Q : Plainly) where
           (flft κs.0 qs.0) ∷ []) ∵
           updating ! $ opens_slice ! tt P.row ys b o $ at_once ! $ frame ! $ move ! (1 ∷ 2 ∷ []) $ fjoin ! $ move ! (1 ∷ 0 ∷ []) $ fjoin ! $ done !
 
-      abbrev at : Bor (List P.row.Denot)
+      abbrev at : MutBor (List P.row.Denot)
       at = record { ref_ptr = (b, o); ghost_name = γ; now = ys }
 
       abbrev vss : Valss (types_at (slots {n = 1} Ps) κs)
       vss = valss (types_at (slots {n = 1} Ps) κs) (spelled 1 κs Ps) a
 
       abbrev Bound : (walk_of 𝓛 lent stayed lending).Ghost
-      Bound = ((κs, qs, tt, (at, a), (shr_slice_vals at, vss)), tt)
+      Bound = ((κs, qs, tt, (at, a), (mut_slice_vals at, vss)), tt)
 
       abbrev Post : Val → SProp 𝓤
       Post = (walk_of 𝓛 lent stayed lending).post Bound
@@ -241,21 +242,21 @@ module _ (P : Plainly) (Ps : List Plainly) (Q : Plainly) where
     abbrev pub showing : Clauses 𝓤 shown
     showing κs a = record { ghost = Unit {0}; requires = λ _. emp 𝓤; ensures = λ _ r e. fact 𝓤 (φ κs a.0.now a.1 r) }
 
-    module _ (κs : Lfts 1) (qs : Shares 1) (b o : ℕ) (γ : GName) (ys : List P.row.Denot) (a : Ins 1 κs Ps) where
-      abbrev Whole : Share → Fml
-      Whole s = (arr_parts (shares P.row) (length ys)).part s ys b o
+    module _ (κs : Lfts 1) (qs : Shares 1) (b o : ℕ) (ys : List P.row.Denot) (a : Ins 1 κs Ps) where
+      -- what the reference owns of the run, and the token's way back once a share of it was taken
+      abbrev Whole : Fml
+      Whole = fhide (elements_shared P.row ys b o κs.0)
 
-      abbrev Seen : Share → Fml
-      Seen s = fobor κs.0 qs.0 (Whole s)
+      abbrev Seen : Share → Item 𝓤
+      Seen s = WayBack 𝓛 κs.0 qs.0 (row P.row s ys b o)
 
-      seen_open : ent 𝓤 (⋆ 𝓛 (‵ (fshr_bor κs.0 Whole) ∷ ‵ (flft κs.0 qs.0) ∷ []))
-          (H.⇛ (ex 𝓤 (λ (s : Share). ⋆ 𝓛 (‵ (row P.row s ys b o) ∷ ‵ (Seen s) ∷ []))))
-      seen_open = qed 𝓛 (‵ (fshr_bor κs.0 Whole) ∷ ‵ (flft κs.0 qs.0) ∷ []) ∵ updating ! $
-          looks_slice ! tt P.row (Is P.row) (shows 𝓛 P.row) (λ x. P.val x ∷ []) P.tells (P.copies 𝓛) ys b o (λ s. at_once ! $
-          show ! (λ (s : Share). ⋆ 𝓛 (‵ (row P.row s ys b o) ∷ ‵ (Seen s) ∷ [])) s $ keep ! (0 ∷ 1 ∷ []) $ done !)
+      seen_open : ent 𝓤 (⋆ 𝓛 (‵ Whole ∷ ‵ (flft κs.0 qs.0) ∷ [])) (H.⇛ (ex 𝓤 (λ (s : Share). ⋆ 𝓛 (‵ (row P.row s ys b o) ∷ Seen s ∷ []))))
+      seen_open = qed 𝓛 (‵ Whole ∷ ‵ (flft κs.0 qs.0) ∷ []) ∵ updating ! $
+          looks_slice ! tt P.row (P.copied 𝓛) ys b o (λ s. at_once ! $
+          show ! (λ (s : Share). ⋆ 𝓛 (‵ (row P.row s ys b o) ∷ Seen s ∷ [])) s $ keep ! (0 ∷ 1 ∷ []) $ done !)
 
       abbrev from : Bor (List P.row.Denot)
-      from = record { ref_ptr = (b, o); ghost_name = γ; now = ys }
+      from = record { ref_ptr = (b, o); now = ys }
 
       abbrev uss : Valss (types_at (slots {n = 1} Ps) κs)
       uss = valss (types_at (slots {n = 1} Ps) κs) (spelled 1 κs Ps) a
@@ -266,10 +267,10 @@ module _ (P : Plainly) (Ps : List Plainly) (Q : Plainly) where
       abbrev Then : Val → SProp 𝓤
       Then = (walk_of 𝓛 shown staying showing).post Found
 
-      seen_shut : (s : Share) (r : Q.row.Denot) → φ κs ys a r → Is Q.row r (Q.val r ∷ []) → ent 𝓤 (⋆ 𝓛 (‵ (row P.row s ys b o) ∷ ‵ (Seen s) ∷ []))
+      seen_shut : (s : Share) (r : Q.row.Denot) → φ κs ys a r → Is Q.row r (Q.val r ∷ []) → ent 𝓤 (⋆ 𝓛 (‵ (row P.row s ys b o) ∷ Seen s ∷ []))
           (Then (Q.val r))
       seen_shut s r said is =
-          qed 𝓛 (‵ (row P.row s ys b o) ∷ ‵ (Seen s) ∷ []) ∵ updating ! $ shuts_slice ! tt P.row s ys b o $
+          qed 𝓛 (‵ (row P.row s ys b o) ∷ Seen s ∷ []) ∵ updating ! $ shuts_slice ! tt P.row s ys b o $
           by ! (via 𝓤 _ ending (ends_at 𝓛 shown staying showing Found (Q.val r) r (tt, lastly 1 κs Ps a) (tt, fitting 1 κs Ps a)))
         where
           ending : ent 𝓤 (⋆ 𝓛 (‵ (flft κs.0 qs.0) ∷ [])) (Ending 𝓛 shown staying showing Found (Q.val r) r (tt, lastly 1 κs Ps a))
@@ -279,17 +280,17 @@ module _ (P : Plainly) (Ps : List Plainly) (Q : Plainly) where
               owned ! Q.row (Is Q.row) (Q.makes 𝓛) r (Q.val r ∷ []) is $ done !
 
     -- what shuts the run, at the result r
-    abbrev pub Shuts : (κs : Lfts 1) (b o : ℕ) (ys : List P.row.Denot) (a : Ins 1 κs Ps) → Share → (Val → SProp 𝓤) → Fml → Type 1
-    Shuts κs b o ys a s Post S = (r : Q.row.Denot) → φ κs ys a r → Is Q.row r (Q.val r ∷ []) → ent 𝓤 (⋆ 𝓛 (‵ (row P.row s ys b o) ∷ ‵ S ∷ []))
+    abbrev pub Shuts : (κs : Lfts 1) (b o : ℕ) (ys : List P.row.Denot) (a : Ins 1 κs Ps) → Share → (Val → SProp 𝓤) → Item 𝓤 → Type 1
+    Shuts κs b o ys a s Post S = (r : Q.row.Denot) → φ κs ys a r → Is Q.row r (Q.val r ∷ []) → ent 𝓤 (⋆ 𝓛 (‵ (row P.row s ys b o) ∷ S ∷ []))
         (Post (Q.val r))
 
     module _ (𝓣 : Tables 𝓤 H) (f : Fn) where
       -- the same where the run is only read
       abbrev pub Look : Type 2
       Look = (κs : Lfts 1) (b o : ℕ) (ys : List P.row.Denot) (a : Ins 1 κs Ps) → Room P.row (length ys) → Good 1 κs Ps a → (s : Share)
-          (Post : Val → SProp 𝓤) (S : Fml) → Shuts κs b o ys a s Post S
+          (Post : Val → SProp 𝓤) (S : Item 𝓤) → Shuts κs b o ys a s Post S
           → (bs : Blocks f.locals) → Sq 𝓛 (entry 𝓛 (env_of 𝓛 f.locals bs) (slice_val (b, o) (length ys) ∷ words 1 κs Ps a) ++
-          (‵ (deaths 𝓛 (env_of 𝓛 f.locals bs)) ∷ ‵ (row P.row s ys b o) ∷ ‵ S ∷ []))
+          (‵ (deaths 𝓛 (env_of 𝓛 f.locals bs)) ∷ ‵ (row P.row s ys b o) ∷ S ∷ []))
           (runs 𝓣.C 𝓣.Λ (env_of 𝓛 f.locals bs) f.body (at_ret (env_of 𝓛 f.locals bs) Post))
 
       pub looks : (rest : List Local) → f.locals ≡ of Q.ty ∷ of (slice_ty (ty_ref (named 0) imm (pointee P.row.written))) ∷ (params Ps ++ rest) → Look
@@ -299,33 +300,33 @@ module _ (P : Plainly) (Ps : List Plainly) (Q : Plainly) where
           showing (WpFn 𝓤 H 𝓣.C 𝓣.Λ f) (WpFn-mono 𝓤 H 𝓛.laws 𝓣 f)
           (walked 𝓛 shown staying showing (WpFn 𝓤 H 𝓣.C 𝓣.Λ f) (λ κs. (shr_slice_vals, spelled 1 κs Ps))
           (λ κs. (shr_slice_Tells (named 0) κs.0 P.row, told 1 κs Ps))
-          (λ κs qs bounds a _ are. via 𝓤 _ (fst∗ 𝓤 _ (emp 𝓤)) (run κs qs a.0.ref_ptr.0 a.0.ref_ptr.1 a.0.ghost_name a.0.now a.1 are.0.0.1
+          (λ κs qs bounds a _ are. via 𝓤 _ (fst∗ 𝓤 _ (emp 𝓤)) (run κs qs a.0.ref_ptr.0 a.0.ref_ptr.1 a.0.now a.1 are.0.0.1
           are.1)))
         where
-          run : (κs : Lfts 1) (qs : Shares 1) (b o : ℕ) (γ : GName) (ys : List P.row.Denot) (a : Ins 1 κs Ps) → Room P.row (length ys) → Good 1 κs Ps a
+          run : (κs : Lfts 1) (qs : Shares 1) (b o : ℕ) (ys : List P.row.Denot) (a : Ins 1 κs Ps) → Room P.row (length ys) → Good 1 κs Ps a
               → ent 𝓤 (on_entry 𝓛 shown.signature κs qs (record { ref_ptr = (b, o); now = ys }, a)
-              (slice_val (b, o) (length ys) ∷ [], uss κs qs b o γ ys a))
-              (WpFn 𝓤 H 𝓣.C 𝓣.Λ f (slice_val (b, o) (length ys) ∷ words 1 κs Ps a) (Then κs qs b o γ ys a))
-          run κs qs b o γ ys a gn good =
-              qed 𝓛 ((‵ (flft κs.0 qs.0) ⊛ ‵ ftrue) ∷ ‵ (owns (types_at shown.signature.params κs) (from κs qs b o γ ys a, a)
-              (slice_val (b, o) (length ys) ∷ [], uss κs qs b o γ ys a)) ∷ []) ∵
-              split ! $ move ! (2 ∷ []) $ fsplit ! $ fsplit ! $ move ! (1 ∷ []) $ fsplit ! $ keep ! (1 ∷ 4 ∷ []) $
-              begins ! 𝓣.C 𝓣.Λ f (slice_val (b, o) (length ys) ∷ words 1 κs Ps a) (Then κs qs b o γ ys a)
+              (slice_val (b, o) (length ys) ∷ [], uss κs qs b o ys a))
+              (WpFn 𝓤 H 𝓣.C 𝓣.Λ f (slice_val (b, o) (length ys) ∷ words 1 κs Ps a) (Then κs qs b o ys a))
+          run κs qs b o ys a gn good =
+              qed 𝓛 ((‵ (flft κs.0 qs.0) ⊛ ‵ ftrue) ∷ ‵ (owns (types_at shown.signature.params κs) (from κs qs b o ys a, a)
+              (slice_val (b, o) (length ys) ∷ [], uss κs qs b o ys a)) ∷ []) ∵
+              split ! $ move ! (2 ∷ []) $ fsplit ! $ fsplit ! $ keep ! (1 ∷ 3 ∷ []) $
+              begins ! 𝓣.C 𝓣.Λ f (slice_val (b, o) (length ys) ∷ words 1 κs Ps a) (Then κs qs b o ys a)
               (subst (λ (ls : List Local). (bs : Blocks ls) → Fits 𝓛 (env_of 𝓛 ls bs) (slice_val (b, o) (length ys) ∷ words 1 κs Ps a)) (sym same)
               (λ bs. ((tt, (tt, (record { fits = gn.0 }, tt))), fit_all 𝓛 κs Ps a good rest bs.1.1)))
               (λ bs. under tt (entry 𝓛 (env_of 𝓛 f.locals bs) (slice_val (b, o) (length ys) ∷ words 1 κs Ps a)) _ {X = Share}
-              (λ s. ‵ (deaths 𝓛 (env_of 𝓛 f.locals bs)) ∷ ‵ (row P.row s ys b o) ∷ ‵ (Seen κs qs b o γ ys a s) ∷ []) (opens bs)
-              (λ s. walk κs b o ys a gn good s (Then κs qs b o γ ys a) (Seen κs qs b o γ ys a s) (seen_shut κs qs b o γ ys a s) bs))
+              (λ s. ‵ (deaths 𝓛 (env_of 𝓛 f.locals bs)) ∷ ‵ (row P.row s ys b o) ∷ Seen κs qs b o ys a s ∷ []) (opens bs)
+              (λ s. walk κs b o ys a gn good s (Then κs qs b o ys a) (Seen κs qs b o ys a s) (seen_shut κs qs b o ys a s) bs))
             where
-              opens : (bs : Blocks f.locals) → ent 𝓤 (⋆ 𝓛 (‵ (deaths 𝓛 (env_of 𝓛 f.locals bs)) ∷ ‵ (fshr_bor κs.0 (Whole κs qs b o γ ys a)) ∷ ‵
+              opens : (bs : Blocks f.locals) → ent 𝓤 (⋆ 𝓛 (‵ (deaths 𝓛 (env_of 𝓛 f.locals bs)) ∷ ‵ (Whole κs qs b o ys a) ∷ ‵
                   (flft κs.0 qs.0) ∷ []))
-                  (H.⇛ (ex 𝓤 (λ (s : Share). ⋆ 𝓛 (‵ (deaths 𝓛 (env_of 𝓛 f.locals bs)) ∷ ‵ (row P.row s ys b o) ∷ ‵ (Seen κs qs b o γ ys a s) ∷
+                  (H.⇛ (ex 𝓤 (λ (s : Share). ⋆ 𝓛 (‵ (deaths 𝓛 (env_of 𝓛 f.locals bs)) ∷ ‵ (row P.row s ys b o) ∷ Seen κs qs b o ys a s ∷
                   []))))
               opens bs =
-                  qed 𝓛 (‵ (deaths 𝓛 (env_of 𝓛 f.locals bs)) ∷ raw (⋆ 𝓛 (‵ (fshr_bor κs.0 (Whole κs qs b o γ ys a)) ∷ ‵ (flft κs.0 qs.0) ∷
+                  qed 𝓛 (‵ (deaths 𝓛 (env_of 𝓛 f.locals bs)) ∷ raw (⋆ 𝓛 (‵ (Whole κs qs b o ys a) ∷ ‵ (flft κs.0 qs.0) ∷
                   [])) ∷ []) ∵
                   updating ! $ move ! (1 ∷ []) $ use1 𝓛 (later (some (λ (s : Share). raw
-                  (⋆ 𝓛 (‵ (row P.row s ys b o) ∷ ‵ (Seen κs qs b o γ ys a s) ∷ []))))) (seen_open κs qs b o γ ys a) $ await ! tt $
+                  (⋆ 𝓛 (‵ (row P.row s ys b o) ∷ Seen κs qs b o ys a s ∷ []))))) (seen_open κs qs b o ys a) $ await ! tt $
                   pick ! (λ s. at_once ! $
-                  show ! (λ (s : Share). ⋆ 𝓛 (‵ (deaths 𝓛 (env_of 𝓛 f.locals bs)) ∷ ‵ (row P.row s ys b o) ∷ ‵ (Seen κs qs b o γ ys a s) ∷ [])) s $
+                  show ! (λ (s : Share). ⋆ 𝓛 (‵ (deaths 𝓛 (env_of 𝓛 f.locals bs)) ∷ ‵ (row P.row s ys b o) ∷ Seen κs qs b o ys a s ∷ [])) s $
                   move ! (1 ∷ 0 ∷ []) $ done !)

@@ -7,8 +7,8 @@ use Prim.Native.Nat.{ℕ, zero, ◌+◌, ◌*◌, ◌<◌, ◌^◌}
 use lib.Dec.{T, T as Holds, ltb}
 use lib.ListN.{length, get_or, set}
 use seplogic.Ra.Ura.{Ura}
-use seplogic.Ra.TreeShare.{full_share}
-use mir.Syntax.{Name, Ty, ty_int, ty_bool, w64, Body, place, seq, call, Opd as Operand}
+use base.Fraction.{full_share}
+use mir.Syntax.{Callee, Ty, ty_int, ty_bool, w64, Body, place, seq, call, Opd as Operand}
 use mir.Raw.{raw as raw_ty}
 use mir.Val.{Val, WT, has_ty, vint, vbool}
 use base.Logic.{SProp, ent, sep, emp, wand, ex, via, comm∗, mono_l, mono_r, emp∗, snd∗, ex_e, ex_i, wand_i, guard_i}
@@ -18,12 +18,13 @@ use types.Logic.{Logic, sem}
 use contract.Lifetimes.{Lfts}
 use contract.Monad.{fact, fact_i}
 use sound.WpLaws.{FmC}
-use types.Kit.{Item, ‵, raw, ◌⊛◌, later, mean, ⋆, nth, del, put, pull, unpull, fill, push, Post, post, Goal, Soaks, runs, lands, aim, Seq, ◌$◌, ◌∵◌, ! }
+use types.Kit.{Item, ‵, raw, ◌⊛◌, later, mean, ⋆, nth, del, put, pull, unpull, fill, push, Post, Goal, Soaks, runs, lands, aim, Seq, ◌$◌, ◌∵◌, ! }
 use types.Kit.{qed, by, move, drop, split, split3, join, recast, use0, use1, assume, frame, await, done}
 use types.Run.{Reads, Writes, Opds, land, from, stop}
 use denote.RattleType.{RattleType, Denots, flat, owns}
 use denote.Exit.{yes, unchanged}
 use denote.Laws.{Copy, Is, shows, Tells, Makes, Lawful, Typed, Ises, Are, Spells, valss, Tellss, Makess, owns_make}
+use denote.Copied.{Copied, uint_Copied, bool_Copied}
 use denote.Memory.{cell_at, mem, shares}
 use denote.Index.{place as spot, place_is, row, others, elem_out, elem_back, elem_put}
 use denote.Plain.{uint_Tells, uint_Makes, uint_copy, uint_Lawful, bool_Tells, bool_Makes, bool-copy, bool_Lawful}
@@ -53,6 +54,8 @@ pub record Plainly : Type 2 where
   pub makes : {M : Type 1} {𝓤 : Ura M} (𝓛 : Logic 𝓤) → Makes 𝓛 row (Is row)
   pub lawful : {M : Type 1} {𝓤 : Ura M} (𝓛 : Logic 𝓤) → Lawful 𝓛 row
   pub copies : {M : Type 1} {𝓤 : Ura M} (𝓛 : Logic 𝓤) → Copy 𝓛 row
+  -- a `&` to it is made of any share, and read through
+  pub copied : {M : Type 1} {𝓤 : Ura M} (𝓛 : Logic 𝓤) → Copied 𝓛 row
   pub still : row.exit yes ≡ unchanged
   pub small : T (ltb (mem row).size (2 ^ 64))
 
@@ -67,6 +70,7 @@ number = record {
   makes = λ 𝓛. uint_Makes 𝓛 w64;
   lawful = λ 𝓛. uint_Lawful 𝓛 w64;
   copies = λ 𝓛. uint_copy 𝓛 w64;
+  copied = λ 𝓛. uint_Copied 𝓛 w64;
   still = refl;
   small = tt;
 }
@@ -81,6 +85,7 @@ truth = record {
   makes = λ 𝓛. bool_Makes 𝓛;
   lawful = λ 𝓛. bool_Lawful 𝓛;
   copies = λ 𝓛. bool-copy 𝓛;
+  copied = λ 𝓛. bool_Copied 𝓛;
   still = refl;
   small = tt;
 }
@@ -97,6 +102,7 @@ module _ (T : Declared) (L : LL.Laws T) (pl : Plains (fields T)) (cs : LL.Copyab
     makes = λ 𝓛. LL.makes T pl 𝓛;
     lawful = LL.lawful T L;
     copies = LL.copy T cs;
+    copied = LL.copied T cs;
     still = st;
     small = sm;
   }
@@ -114,6 +120,7 @@ module _ (T : Choices.Declared) (L : EL.Laws T) (pl : Enum.Plainss (Choices.vari
     makes = λ 𝓛. EL.makes T pl 𝓛;
     lawful = λ 𝓛. EL.lawful T L 𝓛 few;
     copies = EL.copy T cs;
+    copied = EL.copied T cs;
     still = EL.still T cs yes;
     small = sm;
   }
@@ -307,7 +314,7 @@ module _ {M : Type 1} {𝓤 : Ura M} {𝓛 : Logic 𝓤} {K : Type 0} {Γ : List
   -- the call itself: `after v` is what is to be shown once it has returned v
   open 𝓛 use {H}
 
-  pub called_by : K → FmC 𝓤 H 𝓛.laws C → {g : Name} {xs : List Operand} (Ps : List Plainly) (Q : Plainly) (f : Ins 0 tt Ps → Q.row.Denot) → Triple 𝓤 (C g)
+  pub called_by : K → FmC 𝓤 H 𝓛.laws C → {g : Callee} {xs : List Operand} (Ps : List Plainly) (Q : Plainly) (f : Ins 0 tt Ps → Q.row.Denot) → Triple 𝓤 (C g)
       (Gives 𝓛 Ps Q f)
       → (a : Ins 0 tt Ps) → Good 0 tt Ps a → Opds K 𝓛 Γ E xs (words 0 tt Ps a) → (after : Val → Goal 𝓤 H) → ((v : Val) → Soaks (after v))
       → (Is Q.row (f a) (Q.val (f a) ∷ []) → Seq K 𝓛 Γ (after (Q.val (f a)))) → ent 𝓤 (⋆ 𝓛 Γ)
@@ -334,7 +341,7 @@ module _ {M : Type 1} {𝓤 : Ura M} {𝓛 : Logic 𝓤} {K : Type 0} {Γ : List
   -- it is called, and local k holds what it gives
   open 𝓛 use {H}
 
-  pub calls_by : K → FmC 𝓤 H 𝓛.laws C → {g : Name} {xs : List Operand} {k : ℕ} {rest : Body} (Ps : List Plainly) (Q : Plainly)
+  pub calls_by : K → FmC 𝓤 H 𝓛.laws C → {g : Callee} {xs : List Operand} {k : ℕ} {rest : Body} (Ps : List Plainly) (Q : Plainly)
       (f : Ins 0 tt Ps → Q.row.Denot) → Triple 𝓤 (C g) (Gives 𝓛 Ps Q f)
       → (a : Ins 0 tt Ps) → Good 0 tt Ps a → Opds K 𝓛 Γ E xs (words 0 tt Ps a) → (spot_of 𝓤 H E k).0 ≡ Q.ty → key 𝓛 (nth 𝓛 k Γ) ≡ some
       (full_share, ((spot_of 𝓤 H E k).0, ((spot_of 𝓤 H E k).1, zero)))

@@ -7,8 +7,8 @@ use mathlib.Core.WellFounded.{WellFounded}
 use Prim.Native.Nat.{ℕ, zero}
 use lib.Dec.{T}
 use seplogic.Ra.Ura.{Ura}
-use seplogic.Ra.TreeShare.{full_share}
-use mir.Syntax.{Name, call, Body, place, cond, skip, exit, seq, block, loop, assign, Opd as Operand, Rv as RValue}
+use base.Fraction.{full_share}
+use mir.Syntax.{Callee, call, Body, place, cond, skip, exit, seq, block, loop, assign, Opd as Operand, Rv as RValue}
 use mir.Val.{Val, WT, has_ty, vbool}
 use base.Logic.{ent, emp, sep, id⊢, via, mono_l, all_e}
 use base.Fml.{Share, ftrue, fat, froom}
@@ -117,7 +117,7 @@ module _ {M : Type 1} {𝓤 : Ura M} {𝓛 : Logic 𝓤} {K : Type 0} where
     unfolding after_turn
     sets_last s L t {k} r e wt = step (λ h. assigns_last s r (from s (stop s)) (fills s k e wt) $ record { prf = h.prf })
 
-    pub calls_last : K → (L : Loop 𝓛) (t : L.State) → {g : Name} {xs : List Operand} {k : ℕ} (Ps : List Plainly) (Q : Plainly)
+    pub calls_last : K → (L : Loop 𝓛) (t : L.State) → {g : Callee} {xs : List Operand} {k : ℕ} (Ps : List Plainly) (Q : Plainly)
         (f : Ins 0 tt Ps → Q.row.Denot) → Triple 𝓤 (L.tabs.C g) (Gives 𝓛 Ps Q f)
         → (a : Ins 0 tt Ps) → Good 0 tt Ps a → Opds K 𝓛 Γ L.env xs (words 0 tt Ps a) → (spot_of 𝓤 H L.env k).0 ≡ Q.ty
         → key 𝓛 (nth 𝓛 k Γ) ≡ some (full_share, ((spot_of 𝓤 H L.env k).0, ((spot_of 𝓤 H L.env k).1, zero)))
@@ -132,4 +132,4 @@ module _ {M : Type 1} {𝓤 : Ura M} {𝓛 : Logic 𝓤} {K : Type 0} where
 
     -- and the state u that the turn ends in
     pub turns_to : K → (L : Loop 𝓛) (t u : L.State) → L.less u t → Step K 𝓛 Γ (prop (⋆ 𝓛 (L.head_at u))) Γ (prop (Below 𝓛 L.less L.head_at t))
-    turns_to s L t u lt = step (λ h. record { prf = via 𝓤 (⋆ 𝓛 (L.head_at u)) h.prf (again {W = 𝓛} s L.less L.head_at t u lt).prf })
+    turns_to s L t u lt = step (λ h. record { prf = via 𝓤 (⋆ 𝓛 (L.head_at u)) h.prf (again {𝓛 = 𝓛} s L.less L.head_at t u lt).prf })

@@ -12,8 +12,8 @@ pub use lib.Dec.{eqb, ltb, lit<}
 pub use lib.ListN.{length, get_or, set, length-set}
 pub use lib.WfN.{lt-wf_rel as Nat·lt-wfRel}
 pub use seplogic.Ra.Ura.{Ura}
-pub use seplogic.Ra.TreeShare.{full_share}
-pub use mir.Syntax.{Name, w64}
+pub use base.Fraction.{full_share}
+pub use mir.Syntax.{Callee, w64}
 pub use mir.Val.{Val, vint}
 pub use base.Logic.{SProp, emp}
 pub use base.Fml.{Fml}
@@ -21,13 +21,14 @@ pub use prog.Wp.{Heap, Tables}
 pub use ghost.Atoms.{Atoms}
 pub use sound.WpLaws.{fm_of}
 pub use contract.Monad.{fact_i}
-pub use contract.Running.{given_of, tables}
+pub use contract.Running.{tables}
 unfoldable pub use contract.Running.{tables_of}
 pub use denote.Index.{row}
 pub use denote.Slice.{Room}
 pub use denote.Triple.Statement.{Triple}
 pub use denote.Triple.Table.{entered, cited}
-pub use types.Kit.{Given, ‵, Sq, runs, at_ret, rewrite, done, ◌$◌, !, by}
+pub use types.Logic.{Logic}
+pub use types.Kit.{‵, Sq, runs, at_ret, rewrite, done, ◌$◌, !, by}
 pub use types.Run.{look, and_then, no_more, returns_within, lit, of_opd, bin, returns}
 pub use Rattle.frames.proofs.Frame.{Blocks, env_of, deaths, frame_of, ifs, var, piece, sets, leaves}
 pub use Rattle.frames.proofs.Rows.{Plainly, number, truth, struct, choice, Ins, Gives, calls_by}
