@@ -9,7 +9,6 @@
 #include "tally.h"
 #include <stdlib.h>
 #include <string.h>
-#include <unistd.h>
 
 enum { SLOTS = 32, SIZES = 36, BUNDLE = 65536 };
 
@@ -202,18 +201,7 @@ static void bundles(void) {
     }
 }
 
-/* ---- which to keep: the library hands the part to `write`, and this `write` looks where it stands */
-
-static kept given;
-static int writes;
-
-ssize_t __wrap_write(int fd, const void *at, size_t len);
-ssize_t __wrap_write(int fd, const void *at, size_t len) {
-    (void)fd;
-    given = (kept){at, len};
-    writes++;
-    return (ssize_t)len;
-}
+/* ---- which to keep: the library tells how many bytes, and lends out the part, of which it is seen here where it stands */
 
 static tallied keep_met = {"keep", "", {0, 1, 2}, 3, {0}};
 
@@ -221,9 +209,10 @@ static void keeping(void) {
     bytes x, y;
     any_two(&x, &y);
     kept want = second_keep(x.b, x.len, y.b, y.len);
-    writes = 0;
+    kept given = {NULL, (size_t)-1};
     uint64_t got = probe_keep(x.b, x.len, y.b, y.len);
-    if (writes != 1 || given.at != want.at || given.len != want.len || got != want.len) differ("keep", got, want.len);
+    probe_kept(x.b, x.len, y.b, y.len, &given);
+    if (given.at != want.at || given.len != want.len || got != want.len) differ("keep", got, want.len);
     tally(&keep_met, want.len == 0 ? 0 : want.at == x.b ? 1 : 2);
 }
 

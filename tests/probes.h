@@ -16,6 +16,7 @@ uint64_t probe_write(const record *r, uint8_t *out, size_t out_len);
 uint64_t probe_entry(const uint8_t *b, size_t len, size_t k, record *out);
 uint64_t probe_stood(const uint8_t *first, size_t first_len, const uint8_t *second, size_t second_len, uint64_t out[4]);
 uint64_t probe_keep(const uint8_t *first, size_t first_len, const uint8_t *second, size_t second_len);
+void probe_kept(const uint8_t *first, size_t first_len, const uint8_t *second, size_t second_len, kept *out);
 bool probe_is_lawful(const record *r);
 uint64_t probe_updated(const record *r, record *out);
 uint64_t probe_forked(const record *r, record *zero, record *one);
