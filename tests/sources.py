@@ -29,6 +29,7 @@ def crates():
             above = line.lstrip("# ")
         elif line.strip():
             name, uses = line.split(":")
+            name = name.split()[0]  # a static library is marked behind its name
             kind = above.split(":")[0]
             assert kind in KINDS, f"crates.txt: the line above {name} does not open with its kind ({', '.join(KINDS)})"
             found[name], above = (kind, uses.split()), ""
@@ -51,7 +52,7 @@ def functions(crate):
             body = re.compile(r"\{").search(text, match.end())
             head = text[match.end() : body.start()]
             asks, says, at = False, [], match.end()
-            while clause := re.compile(r"[^{]*?\b(requires|ensures)\s*(?=\{)").match(text, at):
+            while clause := re.compile(r"[^{]*?\b(requires|ensures)\*?(?:\s+\w+)?\s*(?=\{)").match(text, at):
                 inside = braced(text, clause.end())
                 asks = asks or clause.group(1) == "requires"
                 says += [flat(inside)] if clause.group(1) == "ensures" else []

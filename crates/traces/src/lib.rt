@@ -28,7 +28,7 @@ pub fn serve(t: &mut [Record], op: u64, a: usize, b: usize) -> Command
 }
 
 // All commands that the buffer holds, one after the other, from a table by value: each gives way to itself with its answer. The table
-// that is left. Callers of this one need no walk.
+// that is left.
 pub fn run(commands: &mut [u64], table: [Record; 32]) -> [Record; 32]
     ensures { (result ≡ ran_table table commands.old) × (commands.new ≡ ran_in table commands.old) }
 {
