@@ -3,7 +3,7 @@
  * Each copy of a set carries a stamp, 3 to 117 bytes. Keep it beside the copy. Four calls make the stamp of an edited copy,
  * of a copy made from another, of two copies that became one, and say how two copies stand to each other; a fifth tells how
  * much room a stamp has left. They read no clock, no file and no list of stations. Link libebbmuslin.a (`bash install PREFIX`
- * and pkg-config, or rt staticlib ebbmuslin; x86-64 Linux).
+ * and pkg-config, or rt lib in crates/ebbmuslin; x86-64 Linux).
  *
  * The first copy of a set has the stamp of three zero bytes, EBBMUSLIN_FIRST below. Every other copy comes from a fork.
  *

@@ -10,7 +10,7 @@ use rules::Record;
 
 // Where a trace stands between two pieces of its input, and how many bytes more it takes. Only the functions here make one, so that
 // whoever loops over the pieces ends because the trace that a piece leaves takes fewer bytes: dropping it is no loop that ends.
-#[derive(Drop)]
+#[derive(Clone, Copy)]
 pub struct Trace {
     line: Unfinished,
     table: [Record; 32],
@@ -18,7 +18,7 @@ pub struct Trace {
 }
 
 // What a piece leaves: where the trace stands, whether the piece was taken, and how many answered commands stand in the buffer.
-#[derive(Drop)]
+#[derive(Clone, Copy)]
 pub struct Fed {
     pub trace: Trace,
     pub taken: bool,

@@ -26,14 +26,14 @@ pub const CONFLICT: u64 = 99;
 const NEWLINE: u8 = 10;
 
 // A line that is not ended yet: how many bytes are kept of it, and those bytes. No line of eight bytes or more reads.
-#[derive(Drop)]
+#[derive(Clone, Copy)]
 pub struct Unfinished {
     pub len: usize,
     pub bytes: [u8; 8],
 }
 
 // What a line says: its letter, and the slots that it names, else 0. An unreadable line has no letter, 0.
-#[derive(Drop)]
+#[derive(Clone, Copy)]
 pub struct Command {
     pub op: u64,
     pub a: usize,
@@ -41,7 +41,7 @@ pub struct Command {
 }
 
 // What a piece leaves: the line that is unfinished behind it, whether there was room, and how many lines ended in it.
-#[derive(Drop)]
+#[derive(Clone, Copy)]
 pub struct Gathered {
     pub line: Unfinished,
     pub taken: bool,

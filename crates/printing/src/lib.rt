@@ -11,7 +11,7 @@ ghost use Rattle.printing.specs.Answers.{printed, printed_in};
 const LONGEST: usize = 137;
 
 // How many answers were written, and the length of their text.
-#[derive(Drop)]
+#[derive(Clone, Copy)]
 pub struct Printed {
     pub count: usize,
     pub len: usize,

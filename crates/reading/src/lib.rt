@@ -17,7 +17,7 @@ use strings::{DIGITS, begins};
 use walks::{has_twins, is_below};
 
 // What reading leaves beside the words: the answer, and how many strings each name has; both 0 where it is refused.
-#[derive(Drop)]
+#[derive(Clone, Copy)]
 pub struct Counts {
     pub answer: Answer,
     pub update: usize,
@@ -25,7 +25,7 @@ pub struct Counts {
 }
 
 // Both names that were read: how many strings each has.
-#[derive(Drop)]
+#[derive(Clone, Copy)]
 struct TwoNames {
     ok: bool,
     update: usize,
@@ -33,7 +33,7 @@ struct TwoNames {
 }
 
 // A name that was read: how many strings it has, and the bit behind it.
-#[derive(Drop)]
+#[derive(Clone, Copy)]
 struct OneName {
     ok: bool,
     next: usize,
@@ -41,7 +41,7 @@ struct OneName {
 }
 
 // A string that was read: its word, and the bit behind it.
-#[derive(Drop)]
+#[derive(Clone, Copy)]
 struct OneString {
     ok: bool,
     next: usize,

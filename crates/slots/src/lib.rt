@@ -29,14 +29,14 @@ const FULL: u64 = 1005;
 pub const UNFIT: u64 = 1012;
 
 // What a rule answers and leaves in one record.
-#[derive(Drop)]
+#[derive(Clone, Copy)]
 pub struct One {
     pub code: u64,
     pub first: Record,
 }
 
 // What a rule answers and leaves in two records.
-#[derive(Drop)]
+#[derive(Clone, Copy)]
 pub struct Two {
     pub code: u64,
     pub first: Record,

@@ -10,25 +10,26 @@ use std::io::{Eprint, Input, Print, Read, Write};
 use std::{env, io};
 
 // A piece is at most 4,096 bytes, so there are at most as many commands, of three numbers. Their text is written as often as `out` is full.
-fn main(rt: HostRuntime) -> io::Result<()> {
+fn main(rt: HostRuntime) {
     if is_mistyped(&rt) {
-        rt.stderr().write_all(b"usage: trace < FILE\n")?;
-        return rt.stderr().write_all(
+        let _ = rt.stderr().write_all(b"usage: trace < FILE\n");
+        let _ = rt.stderr().write_all(
             b"Each line of FILE is one of: U a, F a, J a b, C a b, S a (slots 0 to 31).\n",
         );
+        return;
     }
     let mut piece = [0u8; 4096];
     let mut commands = [0u64; 12288];
     let mut out = [0u8; 16384];
     answer(&rt, &mut piece, &mut commands, &mut out);
-    Ok(())
 }
 
-// Whether there is an argument: the tool takes none. One that is no text cannot be read, and is one all the same.
-fn is_mistyped<R: env::Env + Alloc>(rt: &R) -> bool {
-    match env::args(rt) {
-        Ok(mut words) => words.nth(1).is_some(),
-        Err(_) => true,
+// Whether there is an argument: the tool takes none.
+fn is_mistyped<R: env::Env>(rt: &R) -> bool {
+    let mut first = [0u8; 1];
+    match rt.arg(1, &mut first) {
+        Err(env::FillError::NotPresent) => false,
+        _ => true,
     }
 }
 
@@ -45,11 +46,11 @@ fn answer<R: Input + Print + Eprint>(rt: &R, piece: &mut [u8], commands: &mut [u
     while let Ok(n) = got {
         if n == 0 {
             let last = inputs::close(trace, commands);
-            show(rt, commands, &last, 1, out);
+            show(rt, commands, last, 1, out);
             return;
         }
         let fed = inputs::feed(trace, &piece[..n], commands);
-        if !show(rt, commands, &fed, n, out) {
+        if !show(rt, commands, fed, n, out) {
             return;
         }
         trace = fed.trace;
@@ -62,11 +63,11 @@ fn answer<R: Input + Print + Eprint>(rt: &R, piece: &mut [u8], commands: &mut [u
 
 // The answers of a piece of n bytes on standard output, or why not on standard error. Only a piece of more bytes than the trace still
 // takes is not taken, and no input is so long.
-fn show<R: Print + Eprint>(rt: &R, commands: &[u64], fed: &Fed, n: usize, out: &mut [u8]) -> bool
-    requires budget_lt_n { fed.now.taken ≡ false → fed.now.trace.budget < n }
-    requires count_in_bounds { 3 * fed.now.count ≤ length commands.now }
+fn show<R: Print + Eprint>(rt: &R, commands: &[u64], fed: Fed, n: usize, out: &mut [u8]) -> bool
+    requires budget_lt_n { fed.taken ≡ false → fed.trace.budget < n }
+    requires count_in_bounds { 3 * fed.count ≤ length commands.now }
     requires longest_in_bounds { longest ≤ length out.old }
-    ensures { result ≡ true → fed.now.taken ≡ true }
+    ensures { result ≡ true → fed.taken ≡ true }
 {
     if !fed.taken {
         let _ = eprintln!(rt; "trace: too long");
@@ -76,7 +77,9 @@ fn show<R: Print + Eprint>(rt: &R, commands: &[u64], fed: &Fed, n: usize, out: &
     match write(rt, &commands[..end], out) {
         Ok(()) => true,
         Err(e) => {
-            let _ = eprintln!(rt; "trace: write: {e}");
+            if e.kind() != io::ErrorKind::BrokenPipe {
+                let _ = eprintln!(rt; "trace: write: {e}");
+            }
             false
         }
     }

@@ -9,7 +9,7 @@ ghost use Rattle.unions.specs.Unions.{opt, stack, cleared, merge, push, reduced,
 use strings::{are_siblings, begins};
 
 // What a join leaves: whether both buffers have room for it, and how many words the update and the id have then.
-#[derive(Drop)]
+#[derive(Clone, Copy)]
 pub struct Joined {
     pub fits: bool,
     pub update: usize,
