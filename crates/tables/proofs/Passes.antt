@@ -1,5 +1,5 @@
 -- What a pass over the table answers: the lowest absent slot, and whether slot a's copy may go. Assumes nothing.
-use Rattle.laws.proofs.Library.{◌≡◌, refl, sym, ap, ◌∙◌, Bool, true, false, cond, ◌||◌, [], ◌∷◌, ℕ, zero, suc, ◌+◌, ◌≤◌, ◌<◌, add-one, arith, lt-ltb}
+use Rattle.laws.proofs.Library.{◌≡◌, refl, sym, ap, ◌∙◌, Bool, true, false, cond, ◌||◌, [], ◌∷◌, ℕ, zero, suc, ◌+◌, ◌-◌, ◌≤◌, ◌<◌, add-one, arith, lt-ltb}
 use Rattle.laws.proofs.Library.{le-ltb, ltb-true, ltb-false, ne_eqb, eqb, ltb, length, get_or, drop, drop_of_length-le}
 use Rattle.laws.proofs.Library.{drop-cons}
 use Rattle.laws.proofs.Tests.{clash, eqb_suc}
@@ -94,6 +94,29 @@ module _ (look : ℕ → Record → ℕ) where
         by n false e g =
             let l : found ≤ n = ltb-false n found e in
             pass_found n (drop n ys) l ∙ sym (pass_found n (drop (suc k) ys) l)
+
+-- ---- a loop over the table, by any look, where the code has counted n slots
+
+pub turn_inside : (t : Table) (k n : ℕ) → n ≡ span_of (length t) → k < n → (k < length t) × (k < 32)
+turn_inside t k n e h = let s = span_few (length t) k (omega arith) in (s.0, omega arith)
+
+module _ (look : ℕ → Record → ℕ) (goes : Goes look) (t : Table) (k n : ℕ) (e : n ≡ span_of (length t)) where
+  -- each turn the pass goes up
+  pub turn_up : (m : ℕ) → k < n → m ≡ look k (get_or t k outside) → span_of (length t) - m < span_of (length t) - k
+  turn_up m h r =
+      let s = span_few (length t) k (omega arith) in
+      let u = goes_up look goes k (get_or t k outside) (omega arith) in
+      omega arith
+
+  -- what it finds from there on stays the same
+  pub turn_same : (m f : ℕ) → k < n → m ≡ look k (get_or t k outside) → scan_of look k t ≡ scan_of look f t → scan_of look m t ≡ scan_of look f t
+  turn_same m f h r i = let l : k < span_of (length t) = omega arith in ap (λ (j : ℕ). scan_of look j t) r ∙ scan_more look goes k t l ∙ i
+
+  -- and at the end it is where the pass stands
+  pub turns_end : (f d x : ℕ) → n ≤ k → x ≡ found_or k d → scan_of look k t ≡ scan_of look f t → x ≡ found_or (scan_of look f t) d
+  turns_end f d x h r i =
+      let l : span_of (length t) ≤ k = omega arith in
+      r ∙ ap (λ (j : ℕ). found_or j d) (sym (scan_end look k t l) ∙ i)
 
 none_yet : (k d : ℕ) → k ≤ 32 → found_or k d ≡ d
 unfolding found_or

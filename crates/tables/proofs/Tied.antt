@@ -77,12 +77,14 @@ gate_few n a b e = by (gates n a b)
 pub gate_bounds : (n a b g : ℕ) → g ≡ gate_code n a b → g ≡ 0 → (a < n) × (b < n) × (a < 32) × (b < 32)
 gate_bounds n a b g e z = gate_few n a b (sym e ∙ z)
 
--- the gate's answer and the rule's, as the table's functions take them
-pub past_gate : {A : Type 0} (g : ℕ) (x y : A) → g ≡ 0 → cond (eqb g 0) x y ≡ x
-past_gate g x y e = simp (eq-eqb g 0 e)
+-- what a function makes of the rule's result u is what it is told to, where the gate's number g is 0
+pub past_gate : {R A : Type 0} (f : R → A) (n a b g : ℕ) (u r : R) (y : A) → g ≡ gate_code n a b → g ≡ 0 → u ≡ r
+    → f u ≡ cond (eqb (gate_code n a b) 0) (f r) y
+past_gate f n a b g u r y e z h = ap f h ∙ sym (simp (eq-eqb (gate_code n a b) 0 (sym e ∙ z)))
 
-pub at_gate : {A : Type 0} (g : ℕ) (x y : A) → (g ≡ 0 → ⊥) → cond (eqb g 0) x y ≡ y
-at_gate g x y e = simp (ne_eqb g 0 e)
+-- and where it is not, what it makes of that number
+pub at_gate : {A : Type 0} (n a b g : ℕ) (x y z : A) → g ≡ gate_code n a b → (g ≡ 0 → ⊥) → z ≡ y → z ≡ cond (eqb (gate_code n a b) 0) x y
+at_gate n a b g x y z e k h = h ∙ sym (simp (ne_eqb (gate_code n a b) 0 (λ i. k (e ∙ i))))
 
 -- ---- rules that keep
 

@@ -1,27 +1,8 @@
 -- `tables::fork_at` meets its contract: the gate bounds both slots, and what the rule by value gives is stored back in each. Assumes nothing.
-use Rattle.laws.proofs.Library.{◌≡◌, ap, ◌∙◌, sym, ℕ, arith, length, length-set, set}
-use Rattle.rules.specs.Tables.{Table, at}
-use Rattle.tables.specs.Forks.{fork_code, fork_list}
+use Rattle.laws.proofs.Library.{refl, arith, length-set, set}
 use Rattle.slots.specs.declared.Two.{Two}
-use Rattle.slots.specs.Gates.{gate_code}
-use Rattle.slots.specs.Rules.{fork_rule}
 use Rattle.tables.proofs.Tied.{gate_bounds, past_gate, at_gate}
 use Rattle.tables.proofs.fork_at.Goals as goal
-
-past : (t : Table) (a b g : ℕ) (j : Two) → g ≡ gate_code (length t) a b → g ≡ 0 → j ≡ fork_rule a b (at t a) (at t b)
-    → (j.code ≡ fork_code t a b) × (set (set t a j.first) b j.second ≡ fork_list t a b)
-past t a b g j e z r =
-    let k : gate_code (length t) a b ≡ 0 = sym e ∙ z in (
-      ap (λ (x : Two). x.code) r ∙ sym (past_gate (gate_code (length t) a b) _ _ k),
-      ap (λ (x : Two). set (set t a x.first) b x.second) r ∙ sym (past_gate (gate_code (length t) a b) _ _ k),
-    )
-
-short : (t : Table) (a b g : ℕ) → g ≡ gate_code (length t) a b → (g ≡ 0 → ⊥) → (g ≡ fork_code t a b) × (t ≡ fork_list t a b)
-short t a b g e z =
-    let k : gate_code (length t) a b ≡ 0 → ⊥ = λ x. z (e ∙ x) in (
-      e ∙ sym (at_gate (gate_code (length t) a b) _ _ k),
-      sym (at_gate (gate_code (length t) a b) _ _ k),
-    )
 
 pub offset_bounds-t-a : goal.offset_bounds-t-a
 offset_bounds-t-a c = omega (arith, gate_bounds _ _ _ _ c.gate-g.ensures c.if-g-eq0.true)
@@ -48,8 +29,13 @@ pub bounds-t-b : goal.bounds-t-b
 bounds-t-b c = rw length-set (gate_bounds _ _ _ _ c.gate-g.ensures c.if-g-eq0.true).1
 
 pub returns-then-g-eq0 : goal.returns-then-g-eq0
-returns-then-g-eq0 c =
-    past c.args.t.now c.args.a c.args.b c.gate-g.result c.fork_rule-f.result c.gate-g.ensures c.if-g-eq0.true c.fork_rule-f.ensures
+returns-then-g-eq0 c = (
+  past_gate (λ (x : Two). x.code) _ _ _ _ _ _ _ c.gate-g.ensures c.if-g-eq0.true c.fork_rule-f.ensures,
+  past_gate (λ (x : Two). set (set c.args.t.now c.args.a x.first) c.args.b x.second) _ _ _ _ _ _ _ c.gate-g.ensures c.if-g-eq0.true c.fork_rule-f.ensures,
+)
 
 pub returns : goal.returns
-returns c = short c.args.t.now c.args.a c.args.b c.gate-g.result c.gate-g.ensures c.if-g-eq0.false
+returns c = (
+  at_gate _ _ _ _ _ _ _ c.gate-g.ensures c.if-g-eq0.false c.gate-g.ensures,
+  at_gate _ _ _ _ _ _ _ c.gate-g.ensures c.if-g-eq0.false refl,
+)

@@ -1,11 +1,11 @@
 -- `tables::fresh` meets its contract: the slots are filled one after another, and the gate says whether the size is allowed. Assumes nothing.
-use Rattle.laws.proofs.Library.{◌≡◌, refl, ap, ◌∙◌, sym, ℕ, ◌+◌, ◌≤◌, ◌<◌, arith, length, set}
+use Rattle.laws.proofs.Library.{◌≡◌, refl, ap, ◌∙◌, ℕ, ◌+◌, ◌≤◌, ◌<◌, arith, length, set}
 use Rattle.rules.specs.Limits.{narrow}
 use Rattle.rules.specs.Tables.{Table, slot_number, make_fresh}
 use Rattle.rules.specs.declared.Record.{Record}
 use Rattle.slots.specs.Gates.{gate_code, fresh_slot}
 use Rattle.scans.specs.Scans.{span_of}
-use Rattle.tables.proofs.Filled.{filled_to, filled_more, filled_length, fresh_is, span_le}
+use Rattle.tables.proofs.Filled.{filled_to, filled_more, filled_length, fresh_is}
 use Rattle.tables.proofs.Passes.{span_few}
 use Rattle.tables.proofs.fresh.Goals as goal
 

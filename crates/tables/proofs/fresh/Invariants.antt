@@ -1,5 +1,4 @@
-use Rattle.laws.proofs.Library.{◌≡◌, ℕ, ◌-◌, ◌≤◌, length}
-use Rattle.scans.specs.Scans.{span_of}
+use Rattle.laws.proofs.Library.{◌≡◌, ◌-◌, ◌≤◌}
 use Rattle.tables.proofs.Filled.{filled_to}
 use Rattle.tables.proofs.fresh.Given as goal
 

@@ -1,4 +1,4 @@
-use Rattle.laws.proofs.Library.{◌≡◌, ℕ, ◌-◌, length}
+use Rattle.laws.proofs.Library.{◌≡◌, ◌-◌, length}
 use Rattle.scans.specs.Scans.{span_of, absent_or_next}
 use Rattle.tables.specs.Passes.{scan_of}
 use Rattle.tables.proofs.lowest_absent.Given as goal

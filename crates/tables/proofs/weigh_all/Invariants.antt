@@ -1,4 +1,4 @@
-use Rattle.laws.proofs.Library.{◌≡◌, ℕ, ◌-◌, length}
+use Rattle.laws.proofs.Library.{◌≡◌, ◌-◌, length}
 use Rattle.scans.specs.Scans.{span_of, weigh_of}
 use Rattle.tables.specs.Passes.{scan_of}
 use Rattle.tables.proofs.weigh_all.Given as goal
