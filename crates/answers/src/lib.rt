@@ -1,60 +1,45 @@
-// The answers as numbers, for callers that take numbers alone: what was written, a verdict, or 1,000 plus a refusal's number.
+// The answers as numbers, for callers that take numbers alone: what was written, a verdict, whether a copy may go, or 1,000 plus a refusal's number.
 #![tactic(auto)]
 
 ghost use Rattle.std.specs.Prelude.{◌≡◌, ℕ, ◌+◌};
 ghost use Rattle.rules.specs.Refusals.{number};
 ghost use Rattle.rules.specs.Values.{compared_of};
 ghost use Rattle.rules.specs.Packed.{written_number, compared_number};
+ghost use Rattle.rules.specs.Tables.{spared_number};
 
-use rules::{Refusal, Standing, Written};
+use rules::{Refusal, Spared, Standing, Verdict};
 
 // A refusal: 1,000 and its number.
+// stays: numbers, here and below: the C interface takes them, and a trace's buffer (`lines::Command`); no `From`, as a `Result` and `u64` are std's.
 pub fn refusal_code(r: Refusal) -> u64
     ensures { result ≡ 1000 + number r }
 {
-    1000 + refusal_number(r)
-}
-
-// The number that the rules give a refusal.
-fn refusal_number(r: Refusal) -> u64
-    ensures { result ≡ number r }
-{
-    match r {
-        Refusal::Malformed => 1,
-        Refusal::Unlawful => 2,
-        Refusal::NoSlot => 3,
-        Refusal::OneSlot => 4,
-        Refusal::Full => 5,
-        Refusal::Long => 6,
-        Refusal::Many => 7,
-        Refusal::Overlap => 8,
-        Refusal::Unseen => 9,
-        Refusal::Short => 10,
-        Refusal::Unread => 11,
-        Refusal::Unfit => 12,
-        Refusal::Ended => 13,
-    }
+    1000 + u64::from(r)
 }
 
 // What a comparison says: 0 equal, 1 obsolete, 2 newer, 3 conflict.
-pub fn compared_code(s: Standing) -> u64
+pub fn compared_code(s: Result<Standing, Refusal>) -> u64
     ensures { result ≡ compared_number (compared_of s) }
 {
     match s {
-        Standing::Equal => 0,
-        Standing::Obsolete(_) => 1,
-        Standing::Newer(_) => 2,
-        Standing::Conflict(_, _) => 3,
-        Standing::Refused(r) => refusal_code(r),
+        Ok(standing) => u64::from(Verdict::from(standing)),
+        Err(why) => refusal_code(why),
     }
 }
 
-// How many bytes a packed call wrote.
-pub fn written_code(w: Written) -> u64
+// How many bytes a packed call wrote, or which slot a call on the table names.
+pub fn written_code(w: Result<usize, Refusal>) -> u64
     ensures { result ≡ written_number w }
 {
-    match w {
-        Written::Bytes(n) => n as u64,
-        Written::Refused(r) => refusal_code(r),
+    w.map_or_else(refusal_code, |n| n as u64)
+}
+
+// Whether a copy may go: 1 spare, 0 kept.
+pub fn spared_code(s: Result<Spared, Refusal>) -> u64
+    ensures { result ≡ spared_number s }
+{
+    match s {
+        Ok(spared) => u64::from(spared),
+        Err(r) => refusal_code(r),
     }
 }

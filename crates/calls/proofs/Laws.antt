@@ -1,80 +1,89 @@
--- What is read as a stamp is the stored shape of a lawful one, so that its names are inside the words that they were read into; what the
--- readers refuse is passed out, and nothing is written. Assumes nothing.
-use Rattle.laws.proofs.Library.{◌≡◌, refl, sym, ap, ◌∙◌, subst, Bool, true, false, cond, not, List, [], Option, none, some, ℕ, lit≤, replicate}
+-- What is read as a stamp is the stored shape of a lawful one, so that its names are inside the words that they were read into. Assumes nothing.
+use Rattle.laws.proofs.Library.{◌≡◌, refl, sym, ap, ap₂, ◌∙◌, subst, Bool, true, false, cond, not, List, Option, none, some, ℕ, lit≤, take, drop, length, take_at}
+use Rattle.laws.proofs.Library.{◌≤◌, Result, Ok, Err}
 use Rattle.rules.specs.Limits.{narrow}
 use Rattle.rules.specs.Stamps.{Stamp, lawful}
-use Rattle.rules.specs.Stored.{is_stored}
+use Rattle.rules.specs.Stored.{is_stored, held, strs_in}
+use Rattle.layout.specs.Words.{stamp_of}
 use Rattle.rules.specs.Refusals.{first}
 use Rattle.rules.specs.Values.{given}
-use Rattle.rules.specs.Packed.{Wrote, unpacked, read_as, read_stamp, wrote}
+use Rattle.rules.specs.Packed.{Wrote, unpacked, read_as, read_stamp}
+use Rattle.rules.specs.declared.Words.{Words}
 use Rattle.rules.specs.declared.Record.{Record}
-use Rattle.rules.specs.declared.Given.{Given}
 use Rattle.rules.specs.declared.Refusal.{Refusal}
 use Rattle.rules.specs.declared.Refusal.TheVariants.{Unlawful}
-use Rattle.rules.specs.declared.Answer.{Answer}
-use Rattle.rules.specs.declared.Answer.TheVariants.{Done, Refused}
-use Rattle.rules.specs.declared.Written.{Written}
-use Rattle.rules.specs.declared.Written.TheVariants.{Refused as NotWritten}
 use Rattle.laws.proofs.Stored.{is_stored_lem}
 use Rattle.stamps.proofs.Laws.{Counted, both_counted, refusal_not_done}
-use Rattle.reading.specs.declared.Counts.{Counts}
-use Rattle.reading.specs.Reading.{counts_of, lent_to}
-use Rattle.reading.proofs.Lent.{given_by, read_is}
+use Rattle.rules.specs.declared.Counts.{Counts}
+use Rattle.reading.specs.Reading.{counts_of, lent_to, update_in, id_in}
+use Rattle.calls.specs.Joins.{Lent}
 
 -- ---- what was read
 
-read_stored : (b : List ℕ) → (read_stamp narrow b).answer ≡ Done → is_stored narrow (read_stamp narrow b).stamp ≡ true
+pub read_stored : (b : List ℕ) (r : Record) → read_stamp narrow b ≡ Ok r → is_stored narrow r ≡ true
 unfolding read_stamp first
-read_stored b = by (unpacked narrow b)
+read_stored b r = by (unpacked narrow b)
   where
-    asked : (s : Stamp) (t : Bool) → lawful narrow s ≡ t → (let g : Given = given narrow (cond (not t) (Refused Unlawful) Done) s in
-        g.answer ≡ Done → is_stored narrow g.stamp ≡ true)
-    asked s true h e = is_stored_lem narrow (lit≤ tt) s h
+    asked : (s : Stamp) (t : Bool) → lawful narrow s ≡ t → given narrow (cond (not t) (Err Unlawful) (Ok tt)) s ≡ Ok r → is_stored narrow r ≡ true
+    asked s true h e = subst (λ (x : Record). is_stored narrow x ≡ true) (cc) (is_stored_lem narrow (lit≤ tt) s h)
     asked s false h e = absurd (refusal_not_done e)
 
-    by : (o : Option Stamp) → (read_as narrow o).answer ≡ Done → is_stored narrow (read_as narrow o).stamp ≡ true
+    by : (o : Option Stamp) → read_as narrow o ≡ Ok r → is_stored narrow r ≡ true
     by none e = absurd (refusal_not_done e)
     by (some s) e = asked s (lawful narrow s) refl e
 
--- the bytes s read as the stamp of the record r
-pub record Read (s : List ℕ) (r : Record) : Type 0 where
-  pub is : read_stamp narrow s ≡ record { answer = Done; stamp = r }
-  pub stored : is_stored narrow r ≡ true
-  pub update : Counted r.update
-  pub id : Counted r.id
+-- so many words at the front of us and is are those of the names of a lawful stamp's record, which was read
+pub record InWords (g : Result Record Refusal) (k : Counts) (us is : List ℕ) : Type 0 where
+  pub of : Record
+  pub read : g ≡ Ok of
+  pub stored : is_stored narrow of ≡ true
+  pub update : take of.update.count of.update.words ≡ take k.update us
+  pub id : take of.id.count of.id.words ≡ take k.id is
+  pub update_few : k.update ≤ 16
+  pub id_few : k.id ≤ 16
 
--- what `read_in` ensures of words that were zeros
-abbrev pub Reads : List ℕ → Counts → List ℕ → List ℕ → Type 0
-Reads s c u i =
-    (c ≡ counts_of (read_stamp narrow s)) × (u ≡ lent_to (read_stamp narrow s).stamp.update (replicate 16 0))
-    × (i ≡ lent_to (read_stamp narrow s).stamp.id (replicate 16 0))
+-- a name at the front of other words
+front_lent : (w : Words) (l : List ℕ) → Counted w → take w.count w.words ≡ take w.count (lent_to w l)
+unfolding lent_to
+front_lent w l c = sym (take_at (take w.count w.words) (drop (length (take w.count w.words)) l) w.count (sym c.taken))
 
-pub was_read : {s : List ℕ} {c : Counts} {u i : List ℕ} → Reads s c u i → c.answer ≡ Done → Read s (given_by c u i).stamp
-was_read {s} {c} {u} {i} e d =
-    let is = read_is s c u i e.0 e.1 e.2 in
-    let h = subst (λ (g : Given). is_stored narrow g.stamp ≡ true) (sym is) (read_stored s (ap (λ (g : Given). g.answer) (sym is) ∙ d)) in
-    let n = both_counted (given_by c u i).stamp h in
-    record { is = sym is ∙ ap (λ (a : Answer). record { answer = a; stamp = (given_by c u i).stamp }) d; stored = h; update = n.0; id = n.1 }
+pub in_words : (g : Result Record Refusal) (k : Counts) (us is u₀ i₀ : List ℕ) → ((r : Record) → g ≡ Ok r → is_stored narrow r ≡ true)
+    → Ok k ≡ counts_of g → us ≡ update_in g u₀ → is ≡ id_in g i₀ → InWords g k us is
+in_words (Ok r) k us is u₀ i₀ lawful e f h =
+    let stored = lawful r refl in
+    let n = both_counted r stored in
+    let c : k ≡ record { update = r.update.count; id = r.id.count } = cc in
+    record {
+      of = r;
+      read = refl;
+      stored = stored;
+      update = rw (c, f) (front_lent r.update u₀ n.0);
+      id = rw (c, h) (front_lent r.id i₀ n.1);
+      update_few = rw c n.0.few;
+      id_few = rw c n.1.few;
+    }
+in_words (Err n) k us is u₀ i₀ lawful e f h = absurd (refusal_not_done (sym e))
 
-pub not_read : (s : List ℕ) {c : Counts} {r : Refusal} → c ≡ counts_of (read_stamp narrow s) → c.answer ≡ Refused r → (read_stamp narrow s).answer ≡ Refused r
-unfolding counts_of
-not_read s e n = ap (λ (x : Counts). x.answer) (sym e) ∙ n
+pub was_read : (b : List ℕ) (k : Counts) (us is u₀ i₀ : List ℕ) → Ok k ≡ counts_of (read_stamp narrow b) → us ≡ update_in (read_stamp narrow b) u₀
+    → is ≡ id_in (read_stamp narrow b) i₀ → InWords (read_stamp narrow b) k us is
+was_read b k us is u₀ i₀ = in_words (read_stamp narrow b) k us is u₀ i₀ (read_stored b)
+
+pub not_read : (g : Result Record Refusal) (e : Refusal) → Err e ≡ counts_of g → g ≡ Err e
+not_read (Ok r) e h = absurd (refusal_not_done h)
+not_read (Err n) e h = let z : n ≡ e = cc in ap Err z
 
 -- ---- what is told
 
 -- a call's answer, and what its buffer holds, are those of x
-abbrev pub Tells : Written → List ℕ → Wrote → Type 0
+abbrev pub Tells : Result ℕ Refusal → List ℕ → Wrote → Type 0
 Tells w l x = (w ≡ x.answer) × (l ≡ x.out)
 
-pub tells_same : {w : Written} {l : List ℕ} {x y : Wrote} → x ≡ y → Tells w l x → Tells w l y
+pub tells_same : {w : Result ℕ Refusal} {l : List ℕ} {x y : Wrote} → x ≡ y → Tells w l x → Tells w l y
 tells_same e t = (t.0 ∙ ap (λ (z : Wrote). z.answer) e, t.1 ∙ ap (λ (z : Wrote). z.out) e)
 
--- a refusal that was passed out
-pub passed : {w : Written} {a : Answer} {r : Refusal} → w ≡ (wrote a [] []).answer → a ≡ Refused r → w ≡ NotWritten r
-unfolding wrote
-passed e t = e ∙ ap (λ (b : Answer). (wrote b [] []).answer) t
+-- ---- what was lent
 
--- and nothing written
-pub tells_refused : {w : Written} {l : List ℕ} {x : Wrote} {a : Answer} {r : Refusal} → w ≡ (wrote a [] []).answer → a ≡ Refused r
-    → x ≡ record { answer = NotWritten r; out = l } → Tells w l x
-tells_refused e t f = tells_same (sym f) (passed e t, refl)
+module _ {u i : List ℕ} (x : Lent u i) where
+  pub held_is : held x.of ≡ stamp_of u i
+  unfolding held strs_in
+  held_is = ap₂ (λ (m n : List ℕ). stamp_of m n) x.update x.id

@@ -7,14 +7,5 @@ ghost use Rattle.rules.specs.Room.{longest_of};
 pub(crate) fn longest(id: &[u64]) -> u64
     ensures { result ≡ longest_of (map str_of id.now) }
 {
-    let mut most = 0;
-    let mut k = 0;
-    while k < id.len() {
-        let n = id[k] % 64;
-        if most < n {
-            most = n;
-        }
-        k += 1;
-    }
-    most
+    id.iter().map(|w| w % 64).max().unwrap_or(0)
 }

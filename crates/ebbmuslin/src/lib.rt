@@ -1,4 +1,5 @@
 // The C synchroniser's side: the packed calls over numbers and byte slices. include/ebbmuslin.h declares them for C.
+// stays: numbers for answers, which are the C interface.
 #![tactic(auto)]
 
 ghost use Rattle.std.specs.Prelude.{◌≡◌};
@@ -45,5 +46,8 @@ pub extern "C" fn ebbmuslin_compare(first: &[u8], second: &[u8]) -> u64
 pub extern "C" fn ebbmuslin_room(stamp: &[u8]) -> u64
     ensures { result ≡ room_number narrow stamp.now }
 {
-    calls::room(stamp)
+    match calls::room(stamp) {
+        Ok(room) => room.strings as u64 * 100 + room.digits,
+        Err(_) => 0,
+    }
 }

@@ -1,13 +1,12 @@
 -- The records in memory are those of a history: an event set beside a table decides nothing about its records, so calls by their own
 -- definitions leave what a history has; and a trace's lines leave what its calls do. Assumes nothing.
-use Rattle.laws.proofs.Library.{◌≡◌, refl, sym, ap, ◌∙◌, subst, List, [], ◌∷◌, ◌++◌, append_assoc, ℕ, ◌≤◌, arith, eqb, ltb, length, eqb-false, ltb-false}
+use Rattle.laws.proofs.Library.{◌≡◌, Ok, Err, refl, sym, ap, ◌∙◌, subst, List, [], ◌∷◌, ◌++◌, append_assoc, ℕ, ◌≤◌, arith, eqb, ltb, length, eqb-false, ltb-false}
 use Rattle.rules.specs.Limits.{Limits, narrow, records}
 use Rattle.rules.specs.Refusals.{first}
 use Rattle.rules.specs.Tables.{Table, bad_size, fresh_table, make_fresh, update_at, fork_at, join_at}
 use Rattle.rules.specs.Histories.{Call, World, after_update, after_fork, after_join, after, after_all, begin, history, call_table, calls_table, beside}
 use Rattle.rules.specs.Traces.{Text, Line, update, fork, join, compare, spare, unreadable, line_text, line_table, traced_from, traced}
 use Rattle.rules.specs.Promises.{Right, MadeByCalls, RightByCalls}
-use Rattle.rules.specs.declared.Slot.TheVariants.{At, Refused}
 use Rattle.laws.proofs.Tests.{not-true, clash, or_left, or_right}
 use Rattle.histories.specs.Lines.{calls_of, lines_table, reached, RightTraced}
 use Rattle.histories.proofs.Every.{every_history_at}
@@ -18,11 +17,11 @@ module _ (L : Limits) where
   after_table : (w : World) (c : Call) → (after L w c).table ≡ call_table L w.table c
   unfolding after call_table
   after_table w (Call.update a) =
-      let s = update_at L w.table a in elim s.answer as (λ x. (after_update w a s x).table ≡ s.table) [ At b ↦ refl | Refused r ↦ refl ]
+      let s = update_at L w.table a in elim s.answer as (λ x. (after_update w a s x).table ≡ s.table) [ Ok b ↦ refl | Err r ↦ refl ]
   after_table w (Call.fork a) =
-      let s = fork_at L w.table a in elim s.answer as (λ x. (after_fork w a s x).table ≡ s.table) [ At b ↦ refl | Refused r ↦ refl ]
+      let s = fork_at L w.table a in elim s.answer as (λ x. (after_fork w a s x).table ≡ s.table) [ Ok b ↦ refl | Err r ↦ refl ]
   after_table w (Call.join a b) =
-      let s = join_at L w.table a b in elim s.answer as (λ x. (after_join w a b s x).table ≡ s.table) [ At c ↦ refl | Refused r ↦ refl ]
+      let s = join_at L w.table a b in elim s.answer as (λ x. (after_join w a b s x).table ≡ s.table) [ Ok c ↦ refl | Err r ↦ refl ]
   after_table w (Call.compare a b) = refl
 
   after_all_table : (w : World) (cs : List Call) → (after_all L w cs).table ≡ calls_table L w.table cs

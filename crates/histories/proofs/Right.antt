@@ -1,6 +1,6 @@
 -- A table that keeps the invariant is right: events and update names agree by Proposition 5.1, ids that are apart never overlap, what an
 -- id covers its update has seen, and stored shapes are lawful; so refusals 8, 9 and 12 have no cause. Assumes nothing.
-use Rattle.laws.proofs.Library.{◌≡◌, refl, sym, ap, ap₂, ◌∙◌, subst, Bool, true, false, cond, and-false, inr, not, ◌&&◌, ◌||◌, List, [], ◌∷◌, ◌++◌, map, inl}
+use Rattle.laws.proofs.Library.{◌≡◌, Ok, Err, refl, sym, ap, ap₂, ◌∙◌, subst, Bool, true, false, cond, and-false, inr, not, ◌&&◌, ◌||◌, List, [], ◌∷◌, ◌++◌, map, inl}
 use Rattle.laws.proofs.Library.{◌↔◌, ℕ, zero, suc, ◌+◌, ◌≤◌, ◌<◌, zero-add, arith, eqb, length, drop, drop_of_length-le, drop-cons, eqb-true, eqb-false}
 use Rattle.laws.proofs.Library.{eq-eqb, ne_eqb, le-ltb}
 use Rattle.rules.specs.Limits.{Limits, records}
@@ -8,9 +8,9 @@ use Rattle.rules.specs.Strings.{Str}
 use Rattle.rules.specs.Names.{Name, any, covered, below, unions}
 use Rattle.rules.specs.Stamps.{verdict, compare}
 use Rattle.rules.specs.Stored.{unlawful, absent}
-use Rattle.rules.specs.Refusals.{first, long, touches, overlap, unknown_to, unseen}
+use Rattle.rules.specs.Refusals.{Answer, first, long, touches, overlap, unknown_to, unseen}
 use Rattle.rules.specs.Values.{told}
-use Rattle.rules.specs.Tables.{Table, outside, at, stamp_at, bad_size, no_slot, present, full, stepped, one_slot, update_at, fork_at, join_at, compare_at, or_next}
+use Rattle.rules.specs.Tables.{Table, Sparing, outside, at, stamp_at, bad_size, no_slot, present, full, stepped, one_slot, update_at, fork_at, join_at, compare_at, or_next}
 use Rattle.rules.specs.Tables.{spared_after, spare_from, spare_at}
 use Rattle.rules.specs.Histories.{World, Events, events_at, within, event_verdict, is_obsolete, slots_from, is_behind, events_of}
 use Rattle.rules.specs.Promises.{Usual, UsualSlot, UsualCompared, UsualSpared, Right}
@@ -18,10 +18,6 @@ use Rattle.rules.specs.declared.Verdict.{Verdict}
 use Rattle.rules.specs.declared.Verdict.TheVariants.{Equal, Obsolete, Newer, Conflict}
 use Rattle.rules.specs.declared.Refusal.{Refusal}
 use Rattle.rules.specs.declared.Refusal.TheVariants.{NoSlot, Full, Long, Overlap, Unseen, Unfit}
-use Rattle.rules.specs.declared.Answer.{Answer}
-use Rattle.rules.specs.declared.Answer.TheVariants.{Done, Refused}
-use Rattle.rules.specs.declared.Compared.TheVariants.{Is}
-use Rattle.rules.specs.declared.Spared.{Spared}
 use Rattle.rules.specs.declared.Spared.TheVariants.{Spare, Kept}
 use Rattle.laws.proofs.Tests.{decide, none_any, not-true, iff, is_not, not_is, In, any_some, some_any, all_each, each_all}
 use Rattle.laws.proofs.Below.{member_in, covered_some, below_each, each_below}
@@ -69,30 +65,30 @@ any_in e Y c = let x = any_some (eqb e) Y c in rw (eqb-true e x.one x.passes) x.
 -- ---- numbers that such a table gives
 
 step_usual : (x : Answer) (a : ℕ) (old new : Table) → UsualAnswer x → UsualSlot (stepped x a old new).answer
-step_usual Done a old new u = tt
-step_usual (Refused r) a old new u = u
+step_usual (Ok x) a old new u = tt
+step_usual (Err r) a old new u = u
 
 told_usual : (x : Answer) (v : Verdict) → UsualAnswer x → UsualCompared (told x v)
-told_usual Done v u = tt
-told_usual (Refused r) v u = u
+told_usual (Ok x) v u = tt
+told_usual (Err r) v u = u
 
-kept_usual : (b : Bool) → UsualSpared (cond b Spare Kept)
+kept_usual : (b : Bool) → UsualSpared (cond b (Ok Spare) (Ok Kept))
 kept_usual true = tt
 kept_usual false = tt
 
 -- ---- one pair of a spare call
 
 -- "the first obsolete verdict gives yes"
-or_next_lem : (v : Verdict) (next : Spared) → or_next Done v next ≡ cond (is_obsolete v) Spare next
+or_next_lem : (v : Verdict) (next : Sparing) → or_next (Ok tt) v next ≡ cond (is_obsolete v) (Ok Spare) next
 or_next_lem Equal next = refl
 or_next_lem Obsolete next = refl
 or_next_lem Newer next = refl
 or_next_lem Conflict next = refl
 
 -- a pair with itself, or with an absent slot, is passed over
-one_turn : (self gone ahead more : Bool) (next verd : Spared) → next ≡ cond more Spare Kept
-    → (self ≡ false → gone ≡ false → verd ≡ cond ahead Spare next)
-    → cond (self || gone) next verd ≡ cond (not gone && not self && ahead || more) Spare Kept
+one_turn : (self gone ahead more : Bool) (next verd : Sparing) → next ≡ cond more (Ok Spare) (Ok Kept)
+    → (self ≡ false → gone ≡ false → verd ≡ cond ahead (Ok Spare) next)
+    → cond (self || gone) next verd ≡ cond (not gone && not self && ahead || more) (Ok Spare) (Ok Kept)
 one_turn true true ahead more next verd e f = e
 one_turn true false ahead more next verd e f = e
 one_turn false true ahead more next verd e f = e
@@ -169,11 +165,11 @@ module _ (L : Limits) (n : ℕ) (some : 1 ≤ n) (few : n ≤ records) (w : Worl
   unseen_tested : (a b : ℕ) → Here a → Here b → (not (eqb a b) && unseen (stamp_at t a) (stamp_at t b)) ≡ false
   unseen_tested a b p q = rw (unseen_none a b p q, and-false)
 
-  verdicts : (a b : ℕ) → Here a → Here b → compare_at L t a b ≡ Is (event_verdict (events_at w a) (events_at w b))
+  verdicts : (a b : ℕ) → Here a → Here b → compare_at L t a b ≡ Ok (event_verdict (events_at w a) (events_at w b))
   unfolding compare_at
   verdicts a b p q =
       rw (passed_done (compare_tests L t a b)
-      (size_fits, (not_is p, (not_is q, (fits a p, (fits b q, (overlap_tested a b p q, (unseen_tested a b p q, tt)))))))) (ap Is (verdict_is a b p q))
+      (size_fits, (not_is p, (not_is q, (fits a p, (fits b q, (overlap_tested a b p q, (unseen_tested a b p q, tt)))))))) (ap Ok (verdict_is a b p q))
 
   -- ---- what spare answers
 
@@ -183,7 +179,7 @@ module _ (L : Limits) (n : ℕ) (some : 1 ≤ n) (few : n ≤ records) (w : Worl
     ahead b = present L t b && not (eqb a b) && is_obsolete (event_verdict (events_at w a) (events_at w b))
 
     -- the records from slot b on, of which there are k
-    spare_from_lem : (k b : ℕ) → b + k ≡ length t → spare_from L (stamp_at t a) a b (drop b t) ≡ cond (any ahead (slots_from b k)) Spare Kept
+    spare_from_lem : (k b : ℕ) → b + k ≡ length t → spare_from L (stamp_at t a) a b (drop b t) ≡ cond (any ahead (slots_from b k)) (Ok Spare) (Ok Kept)
     unfolding spare_from slots_from any
     spare_from_lem zero b e = rw (drop_of_length-le t {i = b} (omega arith))
     spare_from_lem (suc k) b e =
@@ -198,7 +194,7 @@ module _ (L : Limits) (n : ℕ) (some : 1 ≤ n) (few : n ≤ records) (w : Worl
         let pb : Here b = present_by L t b h ∙ is_not q in
         rw (passed_done tests (fits b pb, (overlap_none a b pa pb (eqb-false a b p), (unseen_none a b pa pb, tt))), verdict_is a b pa pb) (or_next_lem v next)))
 
-  spares : (a : ℕ) → Here a → spare_at L t a ≡ cond (is_behind L w a) Spare Kept
+  spares : (a : ℕ) → Here a → spare_at L t a ≡ cond (is_behind L w a) (Ok Spare) (Ok Kept)
   unfolding spare_at is_behind
   spares a p = rw (passed_done (one_slot L t a []) (size_fits, (not_is p, (fits a p, tt)))) (spare_from_lem a p (length t) 0 (zero-add (length t)))
 

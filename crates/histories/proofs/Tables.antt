@@ -1,20 +1,18 @@
 -- What a table holds after a store, which slot a fork takes, what the shares of all slots come to after a store, and what a call's
 -- answer tells of its tests. Assumes nothing.
-use Rattle.laws.proofs.Library.{◌≡◌, refl, sym, ap, ◌∙◌, Bool, true, false, not, ◌&&◌, List, [], ◌∷◌, inl, inr, ℕ, zero, suc, ◌+◌, ◌≤◌, ◌<◌, sub-zero, arith}
+use Rattle.laws.proofs.Library.{◌≡◌, Ok, Err, refl, sym, ap, ◌∙◌, Bool, true, false, not, ◌&&◌, List, [], ◌∷◌, inl, inr, ℕ, zero, suc, ◌+◌, ◌≤◌, ◌<◌, sub-zero, arith}
 use Rattle.laws.proofs.Library.{eqb, leb, length, get_or, set, replicate, length-set, get_or-set_same, get_or-set_other, leb-false, lt-leb}
 use Rattle.rules.specs.Limits.{Limits}
 use Rattle.rules.specs.Strings.{share, whole}
 use Rattle.rules.specs.Stamps.{Stamp, start, lawful, join, sum_shares}
 use Rattle.rules.specs.Stored.{words_of, stored, strs_in, held, unlawful, blank, absent}
-use Rattle.rules.specs.Refusals.{first, long, many, overlap, unseen}
+use Rattle.rules.specs.Refusals.{Answer, first, long, many, overlap, unseen}
 use Rattle.rules.specs.Tables.{Table, outside, at, stamp_at, bad_size, no_slot, present, lowest, full, one_slot}
 use Rattle.rules.specs.Histories.{sum_table}
 use Rattle.rules.specs.Promises.{Usual}
 use Rattle.rules.specs.declared.Record.{Record}
 use Rattle.rules.specs.declared.Refusal.{Refusal}
 use Rattle.rules.specs.declared.Refusal.TheVariants.{NoSlot, OneSlot, Full, Long, Many, Overlap, Unseen, Unfit}
-use Rattle.rules.specs.declared.Answer.{Answer}
-use Rattle.rules.specs.declared.Answer.TheVariants.{Done, Refused}
 use Rattle.laws.proofs.Tests.{clash, decide, not-true, is_not, not_is, or_right}
 use Rattle.laws.proofs.Stored.{held_stored, stored_present, blank_absent}
 use Rattle.histories.specs.Configurations.{put}
@@ -27,13 +25,13 @@ abbrev pub Passed : List (Bool × Refusal) → Type 0
 Passed [] = Unit {0}
 Passed (t ∷ ts) = (t.0 ≡ false) × Passed ts
 
-pub passed_done : (ts : List (Bool × Refusal)) → Passed ts → first ts ≡ Done
+pub passed_done : (ts : List (Bool × Refusal)) → Passed ts → first ts ≡ Ok tt
 unfolding first
 passed_done [] p = refl
 passed_done (t ∷ ts) p = rw p.0 (passed_done ts p.1)
 
 -- what holds where no test does, and of every refusal, holds of the answer
-pub answered : (ts : List (Bool × Refusal)) (P : Answer → Type 0) → (Passed ts → P Done) → ((r : Refusal) → P (Refused r)) → P (first ts)
+pub answered : (ts : List (Bool × Refusal)) (P : Answer → Type 0) → (Passed ts → P (Ok tt)) → ((r : Refusal) → P (Err r)) → P (first ts)
 unfolding first
 answered [] P f g = f tt
 answered (t ∷ ts) P f g = elim (decide t.0) [ inl e ↦ rw e (g t.1) | inr e ↦ rw e (answered ts P (λ p. f (e, p)) g) ]
@@ -45,8 +43,8 @@ pub data Usuals : List (Bool × Refusal) → Type 0 where
   gives : {b : Bool} {r : Refusal} {ts : List (Bool × Refusal)} → Usual r → (b ≡ false → Usuals ts) → Usuals ((b, r) ∷ ts)
 
 abbrev pub UsualAnswer : Answer → Type 0
-UsualAnswer Done = Unit {0}
-UsualAnswer (Refused r) = Usual r
+UsualAnswer (Ok x) = Unit {0}
+UsualAnswer (Err r) = Usual r
 
 pub first_usual : {ts : List (Bool × Refusal)} → Usuals ts → UsualAnswer (first ts)
 unfolding first

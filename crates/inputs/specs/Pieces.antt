@@ -1,11 +1,12 @@
 -- An input in pieces: what each piece prints and leaves. That all of them together print what the rules say of the whole input is `printed_traced`.
-use Rattle.std.specs.Prelude.{Bool, true, false, cond, ◌&&◌, List, [], ◌∷◌, ◌++◌, ℕ, ◌*◌, ◌-◌, ◌^◌, eqb, leb, length}
+use Rattle.std.specs.Prelude.{Bool, cond, ◌&&◌, List, [], ◌∷◌, ◌++◌, ℕ, ◌-◌, ◌^◌, eqb, leb, length}
+use Rattle.std.specs.declared.option.Option.{Option}
+use Rattle.std.specs.declared.option.Option.TheVariants.{None, Some}
 use Rattle.rules.specs.Limits.{narrow, records}
-use Rattle.rules.specs.Packed.{over}
 use Rattle.rules.specs.Tables.{fresh_table}
 use Rattle.rules.specs.Traces.{Text}
 use Rattle.lines.specs.declared.Command.{Command}
-use Rattle.lines.specs.Commands.{begun, ended, left, numbers}
+use Rattle.lines.specs.Commands.{begun, commands_over, ended, left}
 use Rattle.lines.specs.Runs.{answered, table_after}
 use Rattle.printing.specs.Answers.{answers_text}
 use Rattle.inputs.specs.declared.Trace.{Trace}
@@ -30,30 +31,28 @@ after s p = record { line = left s.line p; table = table_after narrow s.table (e
 
 -- ---- in buffers
 
--- three numbers for each byte, and no byte more than are to come; else nothing is taken and nothing written
+-- a command for each byte, and no byte more than are to come; else nothing is taken and nothing written
 abbrev pub room_for : ℕ → ℕ → ℕ → Bool
-room_for n commands budget = leb (3 * n) commands && leb n budget
+room_for n commands budget = leb n commands && leb n budget
 
-abbrev pub has_room : Trace → Text → List ℕ → Bool
+abbrev pub has_room : Trace → Text → List Command → Bool
 has_room s p commands = room_for (length p) (length commands) s.budget
 
-unfoldable pub fed : Trace → Text → List ℕ → Fed
-fed s p commands =
-    cond (has_room s p commands) (record { trace = after s p; taken = true; count = length (piece_answers s p) })
-    (record { trace = s; taken = false; count = 0 })
+unfoldable pub fed : Trace → Text → List Command → Option Fed
+fed s p commands = cond (has_room s p commands) (Some (record { trace = after s p; count = length (piece_answers s p) })) None
 
-unfoldable pub fed_commands : Trace → Text → List ℕ → List ℕ
-fed_commands s p commands = cond (has_room s p commands) (over (numbers (piece_answers s p)) commands) commands
+unfoldable pub fed_commands : Trace → Text → List Command → List Command
+fed_commands s p commands = cond (has_room s p commands) (commands_over (piece_answers s p) commands) commands
 
 -- ---- the end: a last line without newline (newline is 10) is answered as if it had one
 
 abbrev pub is_whole : Trace → Bool
 is_whole s = eqb s.line.len 0
 
-unfoldable pub closed : Trace → List ℕ → Fed
-closed s commands = cond (is_whole s) (record { trace = s; taken = true; count = 0 }) (fed s (10 ∷ []) commands)
+unfoldable pub closed : Trace → List Command → Option Fed
+closed s commands = cond (is_whole s) (Some (record { trace = s; count = 0 })) (fed s (10 ∷ []) commands)
 
-unfoldable pub closed_commands : Trace → List ℕ → List ℕ
+unfoldable pub closed_commands : Trace → List Command → List Command
 closed_commands s commands = cond (is_whole s) commands (fed_commands s (10 ∷ []) commands)
 
 -- ---- all pieces, one after the other, then the end

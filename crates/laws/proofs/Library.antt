@@ -20,3 +20,4 @@ pub use lib.Seq.{take-suc, take-suc-set, take-take}
 pub use borrow.Author.Tests.{eq-eqb, eqb-false, eqb-true, le-leb, le-ltb, leb-false, leb-true, lt-leb, lt-ltb, ltb-false, ltb-true, ne_eqb, not-false}
 pub use borrow.Author.Tests.{not-true}
 pub use borrow.Author.Rules.{length_unmapped, rules}
+pub use Rattle.std.specs.Prelude.{Result, Ok, Err}

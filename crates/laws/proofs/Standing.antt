@@ -1,23 +1,19 @@
 -- A comparison with its places is the comparison that it was, and a conflict has two strings to show: both stamps are lawful, so both update
 -- names have strings, none longer than the limit, and neither name is below the other. Assumes nothing.
-use Rattle.laws.proofs.Library.{◌≡◌, refl, Bool, true, false, List, ◌∷◌, ℕ, ◌≤◌, arith, length}
+use Rattle.laws.proofs.Library.{◌≡◌, refl, Result, Ok, Err, Bool, true, false, List, ◌∷◌, ℕ, ◌≤◌, arith, length}
 use Rattle.rules.specs.Limits.{Limits}
 use Rattle.rules.specs.Names.{Name, below, lacked}
 use Rattle.rules.specs.Stamps.{Stamp, verdict, compare}
 use Rattle.rules.specs.Stored.{unlawful}
-use Rattle.rules.specs.Refusals.{first}
-use Rattle.rules.specs.Values.{told, compared, placed, compared_of, standing}
-use Rattle.rules.specs.Packed.{packed_compare, packed_standing}
+use Rattle.rules.specs.Refusals.{Answer, and_then, first}
+use Rattle.rules.specs.Values.{Compared, told, compared, placed, compared_of, standing}
+use Rattle.rules.specs.Packed.{read_stamp, packed_compare, packed_standing}
 use Rattle.rules.specs.Tables.{Table, at, stamp_at, compare_at, standing_at}
 use Rattle.rules.specs.Traces.{lacked_at}
 use Rattle.rules.specs.declared.Record.{Record}
 use Rattle.rules.specs.declared.Verdict.{Verdict}
 use Rattle.rules.specs.declared.Verdict.TheVariants.{Equal, Obsolete, Newer, Conflict}
 use Rattle.rules.specs.declared.Refusal.{Refusal}
-use Rattle.rules.specs.declared.Answer.{Answer}
-use Rattle.rules.specs.declared.Answer.TheVariants.{Done, Refused}
-use Rattle.rules.specs.declared.Compared.{Compared}
-use Rattle.rules.specs.declared.Compared.TheVariants.{Is, Refused as NotCompared}
 use Rattle.rules.specs.declared.Uncovered.{Uncovered}
 use Rattle.laws.proofs.Below.{uncovered_lt, lacked_in, lacked_not_e}
 use Rattle.laws.proofs.Lawful.{Named, lawful_parts}
@@ -26,19 +22,25 @@ use Rattle.laws.proofs.Stored.{lawful_stored, stored_lawful}
 -- ---- without the places
 
 pub compared_placed : (c : Compared) (x y : Uncovered) → compared_of (placed c x y) ≡ c
-compared_placed (Is Equal) x y = refl
-compared_placed (Is Obsolete) x y = refl
-compared_placed (Is Newer) x y = refl
-compared_placed (Is Conflict) x y = refl
-compared_placed (NotCompared r) x y = refl
+compared_placed (Ok Equal) x y = refl
+compared_placed (Ok Obsolete) x y = refl
+compared_placed (Ok Newer) x y = refl
+compared_placed (Ok Conflict) x y = refl
+compared_placed (Err r) x y = refl
 
 pub compared_standing : (L : Limits) (a b : Record) → compared_of (standing L a b) ≡ compared L a b
 unfolding standing
 compared_standing L a b = compared_placed (compared L a b) _ _
 
+of_read : (L : Limits) (g h : Result Record Refusal)
+    → compared_of (and_then g (λ a. and_then h (standing L a))) ≡ and_then g (λ a. and_then h (compared L a))
+of_read L (Err r) h = refl
+of_read L (Ok a) (Err r) = refl
+of_read L (Ok a) (Ok b) = compared_standing L a b
+
 pub compared_packed : (L : Limits) (s t : List ℕ) → compared_of (packed_standing L s t) ≡ packed_compare L s t
-unfolding packed_standing
-compared_packed L s t = compared_placed (packed_compare L s t) _ _
+unfolding packed_standing packed_compare
+compared_packed L s t = of_read L (read_stamp L s) (read_stamp L t)
 
 pub compared_at : (L : Limits) (t : Table) (a b : ℕ) → compared_of (standing_at L t a b) ≡ compare_at L t a b
 unfolding standing_at
@@ -47,14 +49,14 @@ compared_at L t a b = compared_placed (compare_at L t a b) _ _
 -- ---- what was accepted
 
 -- where a call is accepted, no test of its list holds
-pub first_done : (b : Bool) (r : Refusal) (ts : List (Bool × Refusal)) → first ((b, r) ∷ ts) ≡ Done → (b ≡ false) × (first ts ≡ Done)
+pub first_done : (b : Bool) (r : Refusal) (ts : List (Bool × Refusal)) → first ((b, r) ∷ ts) ≡ Ok tt → (b ≡ false) × (first ts ≡ Ok tt)
 unfolding first
 first_done true r ts e = absurd (let z : ◌≡◌ {A = ℕ} 0 1 = cc in omega arith)
 first_done false r ts e = (refl, e)
 
-pub told_is : (x : Answer) (v w : Verdict) → told x v ≡ Is w → (x ≡ Done) × (v ≡ w)
-told_is Done v w e = (refl, cc)
-told_is (Refused r) v w e = absurd (let z : ◌≡◌ {A = ℕ} 0 1 = cc in omega arith)
+pub told_is : (x : Answer) (v w : Verdict) → told x v ≡ Ok w → (x ≡ Ok tt) × (v ≡ w)
+told_is (Ok tt) v w e = (refl, cc)
+told_is (Err r) v w e = absurd (let z : ◌≡◌ {A = ℕ} 0 1 = cc in omega arith)
 
 -- "conflict if neither"
 neither : (p q : Bool) → verdict p q ≡ Conflict → (p ≡ false) × (q ≡ false)
@@ -79,7 +81,7 @@ shown L m n p q e =
     let h = uncovered_lt m n e in
     record { some = lacked_not_e m n h q.filled; short = p.short (lacked m n) (lacked_in m n h) }
 
-module _ (L : Limits) (t : Table) (a b : ℕ) (e : compare_at L t a b ≡ Is Conflict) where
+module _ (L : Limits) (t : Table) (a b : ℕ) (e : compare_at L t a b ≡ Ok Conflict) where
   -- it passed the tests of both stamps
   both : Shown L (stamp_at t a).update (stamp_at t b).update × Shown L (stamp_at t b).update (stamp_at t a).update
   unfolding compare_at

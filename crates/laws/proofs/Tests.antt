@@ -1,6 +1,6 @@
 -- Tests and what they say: `any`, `all`, `keep` and `member` as statements about the elements. Assumes nothing.
 use Rattle.laws.proofs.Library.{◌≡◌, refl, sym, ◌∙◌, subst, Bool, true, false, not, ◌&&◌, ◌||◌, or-true, List, [], ◌∷◌, ◌++◌, ◌⊎◌, inl, inr, ⊎_elim, ℕ}
-use Rattle.laws.proofs.Library.{zero, suc, ◌≤◌, ◌<◌, le_of_suc-le-suc, arith, length, get_or, eqb, leb, eq-eqb, eqb-true, leb-true, leb-false}
+use Rattle.laws.proofs.Library.{zero, suc, ◌≤◌, ◌<◌, le_of_suc-le-suc, arith, length, get_or, leb, leb-true, leb-false}
 use Rattle.rules.specs.Names.{any, all, keep}
 
 pub no : false ≡ true → ⊥
@@ -51,9 +51,6 @@ is_not p = rw p
 -- one number is at most another, or beyond it
 pub at_most : (m n : ℕ) → (m ≤ n) ⊎ (n < m)
 at_most m n = elim (decide (leb m n)) [ inl e ↦ inl (leb-true m n e) | inr e ↦ inr (leb-false m n e) ]
-
-pub eqb_suc : (m n : ℕ) → eqb (suc m) (suc n) ≡ eqb m n
-eqb_suc m n = iff (λ e. eq-eqb m n (omega (arith, eqb-true (suc m) (suc n) e))) (λ e. eq-eqb (suc m) (suc n) (omega (arith, eqb-true m n e)))
 
 -- ---- elements
 

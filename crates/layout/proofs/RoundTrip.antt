@@ -1,6 +1,6 @@
 -- Packed stamps and bytes that read are one to one. Writing then reading gives a lawful stamp back, and no other stamp has its bytes;
 -- reading then writing gives the bytes back, and no other bytes read as that stamp. Assumes nothing.
-use Rattle.laws.proofs.Library.{◌≡◌, refl, sym, ap, ◌∙◌, Bool, true, List, Option, none, some, Option·none-ne-some, Option·some-injective, ℕ, ◌^◌, ◌≤◌, lit≤}
+use Rattle.laws.proofs.Library.{◌≡◌, Ok, refl, sym, ap, ◌∙◌, Bool, true, List, Option, none, some, Option·none-ne-some, Option·some-injective, ℕ, ◌^◌, ◌≤◌, lit≤}
 use Rattle.laws.proofs.Library.{length, arith, inl, inr}
 use Rattle.rules.specs.Limits.{Limits, narrow}
 use Rattle.rules.specs.Names.{is_name}
@@ -9,7 +9,7 @@ use Rattle.rules.specs.Stored.{stored, held}
 use Rattle.rules.specs.Refusals.{first}
 use Rattle.rules.specs.Packed.{stamp_bits, packed, bits_of, Taken, take_stamp, is_filling, filled_only, unpacked, read_as, read_stamp}
 use Rattle.rules.specs.Promises.{WriteRead, ReadWrite}
-use Rattle.rules.specs.declared.Answer.TheVariants.{Done}
+use Rattle.rules.specs.declared.Record.{Record}
 use Rattle.laws.proofs.Tests.{decide}
 use Rattle.laws.proofs.Stored.{held_stored}
 use Rattle.layout.proofs.Bytes.{are_bytes, filling_of, packed_bits, filling_is, pack_of_bits}
@@ -62,12 +62,12 @@ module _ (L : Limits) where
       ap (read_as L) (unpacked_packed fit s n.0 n.1) ∙ rw h
 
   -- what an accepted reading found
-  accepted : {P : Type 0} (o : Option Stamp) → (read_as L o).answer ≡ Done
-      → ((s : Stamp) → o ≡ some s → lawful L s ≡ true → (read_as L o).stamp ≡ stored L s → P) → P
+  accepted : {P : Type 0} (o : Option Stamp) (r : Record) → read_as L o ≡ Ok r
+      → ((s : Stamp) → o ≡ some s → lawful L s ≡ true → r ≡ stored L s → P) → P
   unfolding first
-  accepted none e k = absurd (let z : ◌≡◌ {A = ℕ} 0 1 = cc in omega arith)
-  accepted (some s) e k = elim (decide (lawful L s)) [
-    | inl p ↦ k s refl p (rw p)
+  accepted none r e k = absurd (let z : ◌≡◌ {A = ℕ} 0 1 = cc in omega arith)
+  accepted (some s) r e k = elim (decide (lawful L s)) [
+    | inl p ↦ k s refl p (let f = rw p at e in cc)
     | inr p ↦ absurd (let z : ◌≡◌ {A = ℕ} 0 1 = cc (rw p at e) in omega arith)
   ]
 
@@ -77,8 +77,8 @@ module _ (L : Limits) where
     -- "for all accepted bytes read then write gives the bytes back"
     pub read_write : ReadWrite L
     unfolding read_stamp
-    read_write b h e =
-        accepted (unpacked L b) e (λ s told p q. ap (λ r. packed L (held r)) q ∙ ap (packed L) (held_stored L room s p) ∙ packed_unpacked b s h told)
+    read_write b r h e =
+        accepted (unpacked L b) r e (λ s told p q. ap (λ (x : Record). packed L (held x)) q ∙ ap (packed L) (held_stored L room s p) ∙ packed_unpacked b s h told)
 
 -- ---- the limits in force
 

@@ -1,39 +1,43 @@
 -- `read_line` of a letter, a space and a rest is told by the first space of the rest; and no line of eight bytes or more reads, as a slot
 -- has at most two bytes. Assumes nothing.
-use Rattle.laws.proofs.Library.{◌≡◌, refl, sym, ap, ◌∙◌, Bool, true, false, cond, ◌&&◌, ◌||◌, and-false, List, [], ◌∷◌, Option, none, some, ℕ, suc, ◌+◌, ◌-◌}
-use Rattle.laws.proofs.Library.{◌≤◌, ◌<◌, add-one, arith, ltb-true, ltb-false, leb-true, leb-false, eqb-true, lt-ltb, ne_eqb, eqb, leb, ltb, length, get_or, take}
-use Rattle.laws.proofs.Library.{drop, length-take, length-drop, take_all}
+use Rattle.laws.proofs.Library.{◌≡◌, refl, sym, ap, ◌∙◌, Bool, true, false, cond, ◌⊎◌, inl, inr, List, [], ◌∷◌, ℕ, suc, ◌+◌}
+use Rattle.laws.proofs.Library.{◌≤◌, ◌<◌, add-one, arith, ltb-true, ltb-false, leb-true, leb-false, eqb-true, ne_eqb, eqb, leb, ltb, length, get_or, take}
+use Rattle.laws.proofs.Library.{◌-◌, drop, length-drop, length-take, take_all}
+use Rattle.laws.proofs.Library as rules
+use Rattle.std.specs.declared.option.Option.{Option}
+use Rattle.std.specs.declared.option.Option.TheVariants.{None, Some}
 use Rattle.rules.specs.Traces.{Text, Line, unreadable, update, fork, join, compare, spare}
 use Rattle.rules.specs.Traces.{split_at, onto_first, read_line, by_parts, slot_of, one_slot, two_slots, with_one, with_two}
-use Rattle.lines.specs.Commands.{command_of, unread}
-use Rattle.lines.specs.Inner.{or_none, one_command, two_command, first_at}
-use Rattle.lines.proofs.Splits.{either, split_none, split_some, parts, spread, spread_split}
-use Rattle.lines.proofs.Slots.{slot_space, slot_short, slot_below}
+use Rattle.lines.specs.declared.Command.{Command}
+use Rattle.lines.specs.Commands.{command_of}
+use Rattle.lines.specs.Inner.{given, said, first_space}
+use Rattle.lines.proofs.Splits.{either, first_at, found_first, split_none, split_some, parts, spread, spread_split}
+use Rattle.lines.proofs.Slots.{slot_space, slot_short}
 
 -- ---- a letter and the rest of the line
 
 unread_or : (b : Bool) {m : Line} → m ≡ unreadable → cond b unreadable m ≡ unreadable
 unread_or b h = either (λ (n : Line). n ≡ unreadable) b (λ e. refl) (λ e. h)
 
-one_none : (c : ℕ) (x : Option ℕ) → x ≡ none
+one_none : (c : ℕ) (x : rules.Option ℕ) → x ≡ rules.none
     → cond (eqb c 85) (with_one x update) (cond (eqb c 70) (with_one x fork) (cond (eqb c 83) (with_one x spare) unreadable)) ≡ unreadable
 one_none c x e = rw e (unread_or (eqb c 85) (unread_or (eqb c 70) (unread_or (eqb c 83) refl)))
 
-with_none : (x : Option ℕ) (f : ℕ → ℕ → Line) → with_two x none f ≡ unreadable
-with_none none f = refl
-with_none (some a) f = refl
+with_none : (x : rules.Option ℕ) (f : ℕ → ℕ → Line) → with_two x rules.none f ≡ unreadable
+with_none rules.none f = refl
+with_none (rules.some a) f = refl
 
 either_none : (c : ℕ) → cond (eqb c 74) unreadable (cond (eqb c 67) unreadable unreadable) ≡ unreadable
 either_none c = unread_or (eqb c 74) (unread_or (eqb c 67) refl)
 
-first_none : (c : ℕ) (a b : Text) → slot_of a ≡ none → two_slots c a b ≡ unreadable
+first_none : (c : ℕ) (a b : Text) → slot_of a ≡ rules.none → two_slots c a b ≡ unreadable
 first_none c a b e = rw e (either_none c)
 
-second_none : (c : ℕ) (a b : Text) → slot_of b ≡ none → two_slots c a b ≡ unreadable
+second_none : (c : ℕ) (a b : Text) → slot_of b ≡ rules.none → two_slots c a b ≡ unreadable
 second_none c a b e = simp (e, with_none) (either_none c)
 
 -- the first part is more than a letter
-pub no_letter : (c d : ℕ) (l : Text) → (d ≡ 32 → ⊥) → read_line (c ∷ d ∷ l) ≡ unreadable
+no_letter : (c d : ℕ) (l : Text) → (d ≡ 32 → ⊥) → read_line (c ∷ d ∷ l) ≡ unreadable
 unfolding read_line split_at
 no_letter c d l h = rw (ne_eqb d 32 h) (by (eqb c 32) (split_at 32 l))
   where
@@ -42,13 +46,13 @@ no_letter c d l h = rw (ne_eqb d 32 h) (by (eqb c 32) (split_at 32 l))
     by false [] = refl
     by false (p ∷ ps) = refl
 
-pub read_one : (c : ℕ) (l : Text) → length l ≤ first_at 32 l → read_line (c ∷ 32 ∷ l) ≡ one_slot c l
+read_one : (c : ℕ) (l : Text) → length l ≤ first_at 32 l → read_line (c ∷ 32 ∷ l) ≡ one_slot c l
 unfolding read_line split_at
 read_one c l h =
     rw (split_none 32 l h)
     (either (λ (ps : List Text). by_parts ps ≡ one_slot c l) (eqb c 32) (λ e. rw (eqb-true c 32 e)) (λ e. refl))
 
-pub read_two : (c : ℕ) (l : Text) → first_at 32 l < length l
+read_two : (c : ℕ) (l : Text) → first_at 32 l < length l
     → read_line (c ∷ 32 ∷ l) ≡ two_slots c (take (first_at 32 l) l) (drop (suc (first_at 32 l)) l)
 unfolding read_line split_at
 read_two c l h = rw (split_some 32 l h) (by (eqb c 32) refl (ltb (first_at 32 q) (length q)) refl)
@@ -84,7 +88,7 @@ long_parts ((c ∷ []) ∷ (a ∷ (b ∷ (d ∷ ps)))) h = refl
 long_parts ((c ∷ (d ∷ l)) ∷ ps) h = refl
 
 -- the longest line that reads is a letter, two spaces and two slots of two digits: seven bytes
-pub long_unreadable : (l : Text) → 8 ≤ length l → read_line l ≡ unreadable
+long_unreadable : (l : Text) → 8 ≤ length l → read_line l ≡ unreadable
 unfolding read_line
 long_unreadable l h = long_parts (split_at 32 l) (omega (arith, spread_split 32 l))
 
@@ -98,67 +102,103 @@ read_eight l = by (leb 8 (length l)) refl
         long_unreadable (take 8 l) (simp length-take (omega arith)) ∙ sym (long_unreadable l h)
     by false e = ap read_line (take_all 8 l (omega (arith, leb-false 8 (length l) e)))
 
--- ---- a letter and slots, as numbers
+-- ---- a letter and slots, as the code puts them together
 
-pub command_one : (c : ℕ) (l : Text) → command_of (one_slot c l) ≡ one_command c (or_none (slot_of l))
+said_none : {m : Line} → m ≡ unreadable → ◌≡◌ {A = Option Command} None (said m)
+said_none e = rw e
+
+abbrev pub one : ℕ → Option ℕ → Option Command
+one c None = None
+one c (Some a) = Some (record { op = c; a = a; b = 0 })
+
+abbrev pub two : ℕ → Option ℕ → Option ℕ → Option Command
+two c None q = None
+two c (Some a) None = None
+two c (Some a) (Some b) = Some (record { op = c; a = a; b = b })
+
+one_said : (c : ℕ) (f : ℕ → Line) → ((a : ℕ) → one c (Some a) ≡ said (f a)) → (x : rules.Option ℕ) → one c (given x) ≡ said (with_one x f)
+one_said c f h rules.none = refl
+one_said c f h (rules.some a) = h a
+
+two_said : (c : ℕ) (f : ℕ → ℕ → Line) → ((a b : ℕ) → two c (Some a) (Some b) ≡ said (f a b)) → (x y : rules.Option ℕ)
+    → two c (given x) (given y) ≡ said (with_two x y f)
+two_said c f h rules.none y = refl
+two_said c f h (rules.some a) rules.none = refl
+two_said c f h (rules.some a) (rules.some b) = h a b
+
+-- the letters of one slot, and of two, as the code's tests say them
+abbrev OneSlot : ℕ → Type 0
+OneSlot c = (c ≡ 70) ⊎ ((c ≡ 83) ⊎ (c ≡ 85))
+
+abbrev TwoSlots : ℕ → Type 0
+TwoSlots c = (c ≡ 67) ⊎ (c ≡ 74)
+
+one_is : (c : ℕ) (l : Text) → OneSlot c → one c (given (slot_of l)) ≡ said (one_slot c l)
 unfolding command_of
-command_one c l = by (slot_of l) refl
-  where
-    letters : (a : ℕ) → a < 100 → (p q r : Bool) → eqb c 85 ≡ p → eqb c 70 ≡ q → eqb c 83 ≡ r
-        → command_of (cond p (update a) (cond q (fork a) (cond r (spare a) unreadable)))
-        ≡ cond (ltb a 100 && (p || q || r)) (record { op = c; a = a; b = 0 }) unread
-    letters a h true q r e f g = rw (lt-ltb a 100 h, eqb-true c 85 e)
-    letters a h false true r e f g = rw (lt-ltb a 100 h, eqb-true c 70 f)
-    letters a h false false true e f g = rw (lt-ltb a 100 h, eqb-true c 83 g)
-    letters a h false false false e f g = rw (lt-ltb a 100 h)
+one_is c l (inl e) = rw e (one_said 70 fork (λ a. refl) (slot_of l))
+one_is c l (inr (inl e)) = rw e (one_said 83 spare (λ a. refl) (slot_of l))
+one_is c l (inr (inr e)) = rw e (one_said 85 update (λ a. refl) (slot_of l))
 
-    by : (x : Option ℕ) → slot_of l ≡ x
-        → command_of (cond (eqb c 85) (with_one x update) (cond (eqb c 70) (with_one x fork) (cond (eqb c 83) (with_one x spare) unreadable)))
-        ≡ one_command c (or_none x)
-    by none e = rw (one_none c none refl)
-    by (some a) e = letters a (slot_below l a e) (eqb c 85) (eqb c 70) (eqb c 83) refl refl refl
-
-pub command_two : (c : ℕ) (l m : Text) → command_of (two_slots c l m) ≡ two_command c (or_none (slot_of l)) (or_none (slot_of m))
+two_is : (c : ℕ) (l m : Text) → TwoSlots c → two c (given (slot_of l)) (given (slot_of m)) ≡ said (two_slots c l m)
 unfolding command_of
-command_two c l m = by (slot_of l) (slot_of m) refl refl
-  where
-    letters : (a b : ℕ) → a < 100 → b < 100 → (p q : Bool) → eqb c 74 ≡ p → eqb c 67 ≡ q
-        → command_of (cond p (join a b) (cond q (compare a b) unreadable))
-        ≡ cond (ltb a 100 && ltb b 100 && (p || q)) (record { op = c; a = a; b = b }) unread
-    letters a b h k true q e f = rw (lt-ltb a 100 h, lt-ltb b 100 k, eqb-true c 74 e)
-    letters a b h k false true e f = rw (lt-ltb a 100 h, lt-ltb b 100 k, eqb-true c 67 f)
-    letters a b h k false false e f = rw (lt-ltb a 100 h, lt-ltb b 100 k)
+two_is c l m (inl e) = rw e (two_said 67 compare (λ a b. refl) (slot_of l) (slot_of m))
+two_is c l m (inr e) = rw e (two_said 74 join (λ a b. refl) (slot_of l) (slot_of m))
 
-    by : (x y : Option ℕ) → slot_of l ≡ x → slot_of m ≡ y
-        → command_of (cond (eqb c 74) (with_two x y join) (cond (eqb c 67) (with_two x y compare) unreadable)) ≡ two_command c (or_none x) (or_none y)
-    by none y e f = rw (either_none c)
-    by (some a) none e f = rw (either_none c, and-false)
-    by (some a) (some b) e f = letters a b (slot_below l a e) (slot_below m b f) (eqb c 74) (eqb c 67) refl refl
+one_not : (c : ℕ) (l : Text) → (OneSlot c → ⊥) → one_slot c l ≡ unreadable
+one_not c l h = rw (ne_eqb c 85 (λ e. h (inr (inr e))), ne_eqb c 70 (λ e. h (inl e)), ne_eqb c 83 (λ e. h (inr (inl e))))
 
--- the same for what the code hands over: a line by its first two bytes, and a rest by its first space
-pub line_is : (l : Text) → 2 ≤ length l → get_or l 1 0 ≡ 32 → get_or l 0 0 ∷ 32 ∷ take (length l - 2) (drop 2 l) ≡ l
+two_not : (c : ℕ) (l m : Text) → (TwoSlots c → ⊥) → two_slots c l m ≡ unreadable
+two_not c l m h = rw (ne_eqb c 74 (λ e. h (inr e)), ne_eqb c 67 (λ e. h (inl e)))
+
+-- ---- the same for what the code hands over
+
+pub said_short : (l : Text) → length l < 2 → ◌≡◌ {A = Option Command} None (said (read_line l))
+unfolding read_line split_at
+said_short [] h = refl
+said_short (x ∷ []) h = said_none (either (λ (ps : List Text). by_parts ps ≡ unreadable) (eqb x 32) (λ e. refl) (λ e. refl))
+said_short (x ∷ (y ∷ l)) h = absurd (omega arith)
+
+pub said_unspaced : (l : Text) → 2 ≤ length l → (get_or l 1 0 ≡ 32 → ⊥) → ◌≡◌ {A = Option Command} None (said (read_line l))
+said_unspaced [] h e = absurd (omega arith)
+said_unspaced (x ∷ []) h e = absurd (omega arith)
+said_unspaced (x ∷ (y ∷ l)) h e = said_none (no_letter x y l e)
+
+-- a line by its first two bytes and the rest
+line_is : (l : Text) → 2 ≤ length l → get_or l 1 0 ≡ 32 → l ≡ get_or l 0 0 ∷ 32 ∷ take (length l - 2) (drop 2 l)
 line_is [] h e = absurd (omega arith)
 line_is (x ∷ []) h e = absurd (omega arith)
-line_is (x ∷ (y ∷ l)) h e = rw e (ap (λ (m : Text). x ∷ 32 ∷ m) (take_all (suc (suc (length l)) - 2) l (omega arith)))
+line_is (x ∷ (y ∷ l)) h e = rw (e, take_all (suc (suc (length l)) - 2) l (omega arith))
 
-pub short_line : (l : Text) → length l < 2 → read_line l ≡ unreadable
-unfolding read_line split_at
-short_line [] h = refl
-short_line (x ∷ []) h = either (λ (ps : List Text). by_parts ps ≡ unreadable) (eqb x 32) (λ e. refl) (λ e. refl)
-short_line (x ∷ (y ∷ l)) h = absurd (omega arith)
+module _ (l : Text) (h : 2 ≤ length l) (e : get_or l 1 0 ≡ 32) (c : ℕ) (ce : c ≡ get_or l 0 0) (r : Option ℕ)
+    (re : r ≡ first_space (take (length l - 2) (drop 2 l))) where
+  abbrev s : Text
+  s = take (length l - 2) (drop 2 l)
 
-pub unspaced_line : (l : Text) → 2 ≤ length l → (get_or l 1 0 ≡ 32 → ⊥) → read_line l ≡ unreadable
-unspaced_line [] h e = absurd (omega arith)
-unspaced_line (x ∷ []) h e = absurd (omega arith)
-unspaced_line (x ∷ (y ∷ l)) h e = no_letter x y l e
+  line_reads : read_line (c ∷ 32 ∷ s) ≡ read_line l
+  line_reads = ap read_line (rw ce (sym (line_is l h e)))
 
-pub one_rest : (c : ℕ) (l : Text) (k : ℕ) → k ≡ first_at 32 l → k ≡ length l
-    → one_command c (or_none (slot_of l)) ≡ command_of (read_line (c ∷ 32 ∷ l))
-one_rest c l k e f = sym (command_one c l) ∙ ap command_of (sym (read_one c l (omega arith)))
+  reads_one : r ≡ None → one_slot c s ≡ read_line l
+  reads_one none = sym (read_one c s (rw none at (found_first 32 s r re))) ∙ line_reads
 
-pub two_rest : (c : ℕ) (l : Text) (k : ℕ) → k ≡ first_at 32 l → k < length l
-    → two_command c (or_none (slot_of (take k l))) (or_none (slot_of (take (length l - (k + 1)) (drop (k + 1) l))))
-    ≡ command_of (read_line (c ∷ 32 ∷ l))
-two_rest c l k e h =
-    rw (take_all (length l - (k + 1)) (drop (k + 1) l) (simp length-drop (omega arith)), e, add-one)
-    (sym (command_two c (take (first_at 32 l) l) (drop (suc (first_at 32 l)) l)) ∙ ap command_of (sym (read_two c l (omega arith))))
+  reads_two : (k : ℕ) → r ≡ Some k → two_slots c (take k s) (take (length s - (k + 1)) (drop (k + 1) s)) ≡ read_line l
+  reads_two k some =
+      let f : (k ≡ first_at 32 s) × (k < length s) = rw some at (found_first 32 s r re) in
+      let all : take (length s - (k + 1)) (drop (k + 1) s) ≡ drop (k + 1) s = take_all (length s - (k + 1)) (drop (k + 1) s) (simp length-drop (omega arith)) in
+      rw (all, f.0, add-one) (sym (read_two c s (omega arith)) ∙ line_reads)
+
+  -- a letter and what stands behind its space
+  pub says_one : (p : Option ℕ) → OneSlot c → r ≡ None → p ≡ given (slot_of s) → one c p ≡ said (read_line l)
+  says_one p w none pe = rw pe (one_is c s w) ∙ ap said (reads_one none)
+
+  pub says_two : (k : ℕ) (p q : Option ℕ) → TwoSlots c → r ≡ Some k → p ≡ given (slot_of (take k s))
+      → q ≡ given (slot_of (take (length s - (k + 1)) (drop (k + 1) s)))
+      → two c p q ≡ said (read_line l)
+  says_two k p q w some pe qe = rw (pe, qe) (two_is c _ _ w) ∙ ap said (reads_two k some)
+
+  -- no letter for so many slots
+  pub says_none : (r ≡ None → OneSlot c → ⊥) → ((k : ℕ) → r ≡ Some k → TwoSlots c → ⊥) → ◌≡◌ {A = Option Command} None (said (read_line l))
+  says_none none some = by r refl
+    where
+      by : (x : Option ℕ) → r ≡ x → ◌≡◌ {A = Option Command} None (said (read_line l))
+      by None e = said_none (sym (reads_one e) ∙ one_not c s (none e))
+      by (Some k) e = said_none (sym (reads_two k e) ∙ two_not c _ _ (some k e))

@@ -1,9 +1,13 @@
 -- The parts of a text between the bytes c: the first ends where the first c stands, and together they are as long as the text, less the c's.
 -- Assumes nothing.
-use Rattle.laws.proofs.Library.{◌≡◌, refl, Bool, true, false, cond, List, [], ◌∷◌, ℕ, suc, ◌+◌, ◌≤◌, ◌<◌, add-one, arith, eq-eqb, ne_eqb, eqb, length, get_or}
-use Rattle.laws.proofs.Library.{take, drop, drop_of_length-le, drop-cons}
+use Rattle.laws.proofs.Library.{◌≡◌, refl, sym, Bool, true, false, cond, List, [], ◌∷◌, ℕ, zero, suc, ◌+◌, ◌≤◌, ◌<◌, arith, ltb-true, ltb-false, eqb, ltb, length}
+use Rattle.laws.proofs.Library.{take, drop}
+use Rattle.std.specs.declared.option.Option.{Option}
+use Rattle.std.specs.declared.option.Option.TheVariants.{None, Some}
+use Rattle.std.specs.Option.{MatchOption}
+use Rattle.std.specs.List.{position, position_or_len}
+use Rattle.std.proofs.lemmas.List.Recursion.{is_position_or_len}
 use Rattle.rules.specs.Traces.{Text, split_at, onto_first}
-use Rattle.lines.specs.Inner.{first_at}
 
 -- what holds on both ways of a test
 pub either : {A : Type 0} (P : A → Type 0) (b : Bool) {x y : A} → (b ≡ true → P x) → (b ≡ false → P y) → P (cond b x y)
@@ -12,26 +16,24 @@ either P false p q = q refl
 
 -- ---- where the first c stands
 
-pub first_le : (c : ℕ) (l : Text) → first_at c l ≤ length l
-unfolding first_at
-first_le c [] = omega arith
-first_le c (x ∷ l) = either (λ (k : ℕ). k ≤ suc (length l)) (eqb x c) (λ e. omega arith) (λ e. omega (arith, first_le c l))
+-- the length where there is none
+unfoldable pub first_at : ℕ → Text → ℕ
+first_at c [] = zero
+first_at c (x ∷ l) = cond (eqb x c) zero (suc (first_at c l))
 
-pub first_inside : (c : ℕ) (l : Text) (k : ℕ) → k ≡ first_at c l → (k ≡ length l → ⊥) → k < length l
-first_inside c l k e h = omega (arith, first_le c l)
-
--- the same from byte i on: it is this one, or the next is asked, or there is none
-pub first_here : (c : ℕ) (l : Text) (i : ℕ) → i < length l → get_or l i 0 ≡ c → first_at c (drop i l) ≡ 0
+first_is : (c : ℕ) (l : Text) → first_at c l ≡ position_or_len (λ x. eqb x c) l
 unfolding first_at
-first_here c l i h e = rw (drop-cons l i 0 h, eq-eqb (get_or l i 0) c e)
+first_is c l = is_position_or_len (first_at c) (λ x. eqb x c) refl (λ x xs. let e : suc (first_at c xs) ≡ 1 + first_at c xs = omega arith in rw e) l
 
-pub first_next : (c : ℕ) (l : Text) (i : ℕ) → i < length l → (get_or l i 0 ≡ c → ⊥) → first_at c (drop i l) ≡ suc (first_at c (drop (i + 1) l))
-unfolding first_at
-first_next c l i h e = rw (drop-cons l i 0 h, ne_eqb (get_or l i 0) c e, add-one)
+found : (c : ℕ) (l : Text) (n : ℕ) → first_at c l ≡ n → (b : Bool) → ltb n (length l) ≡ b → (r : Option ℕ) → r ≡ cond b (Some n) None
+    → MatchOption r (length l ≤ first_at c l) (λ k. (k ≡ first_at c l) × (k < length l))
+found c l n e true f r re = rw re (sym e, ltb-true n (length l) f)
+found c l n e false f r re = rw re (omega (arith, ltb-false n (length l) f))
 
-pub first_end : (c : ℕ) (l : Text) (i : ℕ) → length l ≤ i → first_at c (drop i l) ≡ 0
-unfolding first_at
-first_end c l i h = rw (drop_of_length-le l h)
+-- what a search for c gives
+pub found_first : (c : ℕ) (l : Text) (r : Option ℕ) → r ≡ position (λ x. eqb x c) l
+    → MatchOption r (length l ≤ first_at c l) (λ k. (k ≡ first_at c l) × (k < length l))
+found_first c l r = found c l _ (first_is c l) _ refl r
 
 -- ---- the parts
 

@@ -1,7 +1,8 @@
--- Lines as numbers: the command that a line says, and those that a piece of the input ends.
-use Rattle.std.specs.Prelude.{Bool, true, false, cond, List, [], ◌∷◌, ◌++◌, ℕ, zero, suc, ◌+◌, ◌*◌, ◌/◌, eqb, leb, ltb, length, get_or, set, take, drop, replicate}
+-- Lines as commands: the command that a line says, and those that a piece of the input ends.
+use Rattle.std.specs.Prelude.{Bool, cond, List, [], ◌∷◌, ◌++◌, ℕ, ◌+◌, eqb, leb, ltb, length, set, take, drop, replicate}
+use Rattle.std.specs.declared.option.Option.{Option}
+use Rattle.std.specs.declared.option.Option.TheVariants.{None, Some}
 use Rattle.rules.specs.Traces.{Line, Text, read_line, update, fork, join, compare, spare, unreadable}
-use Rattle.rules.specs.Packed.{over}
 use Rattle.lines.specs.declared.Unfinished.{Unfinished}
 use Rattle.lines.specs.declared.Command.{Command}
 use Rattle.lines.specs.declared.Gathered.{Gathered}
@@ -52,32 +53,22 @@ unfoldable pub left : Unfinished → Text → Unfinished
 left l [] = l
 left l (x ∷ p) = cond (eqb x 10) (left begun p) (left (pushed l x) p)
 
--- ---- commands in a buffer, three numbers each
+-- ---- commands in a buffer
 
-unfoldable pub numbers : List Command → List ℕ
-numbers [] = []
-numbers (c ∷ cs) = c.op ∷ c.a ∷ c.b ∷ numbers cs
-
--- the first n that stand there
-unfoldable pub commands_in : ℕ → List ℕ → List Command
-commands_in zero l = []
-commands_in (suc n) l = record { op = get_or l 0 0; a = get_or l 1 0; b = get_or l 2 0 } ∷ commands_in n (drop 3 l)
-
--- all of them
-abbrev pub held_in : List ℕ → List Command
-held_in l = commands_in (length l / 3) l
+-- commands at the front of a buffer, and the rest of it as it was
+abbrev pub commands_over : List Command → List Command → List Command
+commands_over cs buffer = cs ++ drop (length cs) buffer
 
 -- room for a command for each byte; without it nothing is read and nothing written
-abbrev pub has_room : Text → List ℕ → Bool
-has_room p buffer = leb (3 * length p) (length buffer)
+abbrev pub has_room : Text → List Command → Bool
+has_room p buffer = leb (length p) (length buffer)
 
-unfoldable pub gathered : Unfinished → Text → List ℕ → Gathered
-gathered l p buffer =
-    cond (has_room p buffer) (record { line = left l p; taken = true; count = length (ended l p) }) (record { line = l; taken = false; count = 0 })
+unfoldable pub gathered : Unfinished → Text → List Command → Option Gathered
+gathered l p buffer = cond (has_room p buffer) (Some (record { line = left l p; count = length (ended l p) })) None
 
 -- the commands at the front, and the rest of the buffer as it was
-unfoldable pub gathered_in : Unfinished → Text → List ℕ → List ℕ
-gathered_in l p buffer = cond (has_room p buffer) (over (numbers (ended l p)) buffer) buffer
+unfoldable pub gathered_in : Unfinished → Text → List Command → List Command
+gathered_in l p buffer = cond (has_room p buffer) (commands_over (ended l p) buffer) buffer
 
 -- ---- a whole input, piece after piece, then its last line
 

@@ -1,10 +1,11 @@
--- Commands at a table: the three numbers that each becomes where it is answered, and the table that is left.
-use Rattle.std.specs.Prelude.{cond, List, [], ◌∷◌, ℕ, ◌+◌, eqb}
+-- Commands at a table: what each becomes where it is answered, and the table that is left.
+use Rattle.std.specs.Prelude.{cond, List, [], ◌∷◌, ℕ, ◌+◌, eqb, Result, Ok, Err}
 use Rattle.rules.specs.Limits.{Limits}
 use Rattle.rules.specs.Tables.{Table, update_at, fork_at, join_at, standing_at, spare_at, slot_number, spared_number}
 use Rattle.rules.specs.Refusals.{number, verdict_number}
 use Rattle.rules.specs.declared.Verdict.{Verdict}
 use Rattle.rules.specs.declared.Standing.{Standing}
+use Rattle.rules.specs.declared.Refusal.{Refusal}
 use Rattle.rules.specs.declared.Refusal.TheVariants.{Unread}
 use Rattle.rules.specs.Traces.{update, fork, join, compare, spare, unreadable, line_table, Line}
 use Rattle.lines.specs.declared.Command.{Command}
@@ -21,12 +22,12 @@ abbrev pub numbered : Command → ℕ → Command
 numbered c n = record { op = c.op; a = n; b = c.b }
 
 -- a compare with its answer: a conflict is the letter c (99), which no line has, and the words of both uncovered strings
-abbrev pub stood : Command → Standing → Command
-stood c Standing.Equal = numbered c (verdict_number Verdict.Equal)
-stood c (Standing.Obsolete y) = numbered c (verdict_number Verdict.Obsolete)
-stood c (Standing.Newer x) = numbered c (verdict_number Verdict.Newer)
-stood c (Standing.Conflict x y) = record { op = 99; a = x.word; b = y.word }
-stood c (Standing.Refused r) = numbered c (1000 + number r)
+abbrev pub stood : Command → Result Standing Refusal → Command
+stood c (Ok Standing.Equal) = numbered c (verdict_number Verdict.Equal)
+stood c (Ok (Standing.Obsolete y)) = numbered c (verdict_number Verdict.Obsolete)
+stood c (Ok (Standing.Newer x)) = numbered c (verdict_number Verdict.Newer)
+stood c (Ok (Standing.Conflict x y)) = record { op = 99; a = x.word; b = y.word }
+stood c (Err r) = numbered c (1000 + number r)
 
 -- a command with the answer to the line that it says; an unreadable line is refusal 11, and has no letter afterwards
 unfoldable pub answer_to : Limits → Table → Command → Line → Command

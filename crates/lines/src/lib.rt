@@ -1,31 +1,35 @@
-// A trace's lines. The bytes of the input become commands, three numbers each, however the input is cut into pieces. The table is for
-// another crate, which puts each answer's number in the place of `a`.
+// A trace's lines. The bytes of the input become commands, however the input is cut into pieces. The table is for another crate, which puts
+// each answer's number in the place of `a`.
 #![tactic(auto)]
 
 mod text;
 
-ghost use Rattle.std.specs.Prelude.{◌≡◌, [], ◌∷◌, ◌+◌, ◌≤◌, length};
-ghost use Rattle.std.proofs.lemmas.List.Edits.{sets};
+ghost use Rattle.std.specs.Prelude.{◌≡◌};
 ghost use Rattle.lines.specs.Commands.{begun, pushed, parsed, gathered, gathered_in};
 
-// The letters, as a command has them: U, F, J, C, S.
-pub const UPDATE: u64 = 85;
+// The letters, as a command has them.
+// stays: numbers and no enum, here and in `Command`: `traces::serve`, `traces::run` and `printing::print` answer any number (`meant`, `answer_text`).
+pub const UPDATE: u64 = b'U' as u64;
 
-pub const FORK: u64 = 70;
+pub const FORK: u64 = b'F' as u64;
 
-pub const JOIN: u64 = 74;
+pub const JOIN: u64 = b'J' as u64;
 
-pub const COMPARE: u64 = 67;
+pub const COMPARE: u64 = b'C' as u64;
 
-pub const SPARE: u64 = 83;
+pub const SPARE: u64 = b'S' as u64;
+
+// The letter of a line that does not read: none.
+pub const NONE: u64 = 0;
 
 // The letter of an answered compare that told a conflict: no line has it.
-pub const CONFLICT: u64 = 99;
+pub const CONFLICT: u64 = b'c' as u64;
 
 // The byte that ends a line.
-const NEWLINE: u8 = 10;
+const NEWLINE: u8 = b'\n';
 
 // A line that is not ended yet: how many bytes are kept of it, and those bytes. No line of eight bytes or more reads.
+// stays: a length beside its bytes: a trace keeps it from piece to piece, so it is of fixed size and borrows nothing.
 #[derive(Clone, Copy)]
 pub struct Unfinished {
     pub len: usize,
@@ -40,15 +44,22 @@ pub struct Command {
     pub b: usize,
 }
 
-// What a piece leaves: the line that is unfinished behind it, whether there was room, and how many lines ended in it.
+// What a piece leaves: the line that is unfinished behind it, and how many lines ended in it.
 #[derive(Clone, Copy)]
 pub struct Gathered {
     pub line: Unfinished,
-    pub taken: bool,
     pub count: usize,
 }
 
+// The command of a line that does not read.
+pub const UNREADABLE: Command = Command {
+    op: NONE,
+    a: 0,
+    b: 0,
+};
+
 // The line before its first byte.
+#[tactic(auto, unfolding(crate::specs::Commands::begun))]
 pub fn begin() -> Unfinished
     ensures { result ≡ begun }
 {
@@ -58,72 +69,47 @@ pub fn begin() -> Unfinished
     }
 }
 
-// The line with one byte more; from the eighth on no byte is kept.
+// The line with one byte more; behind the eighth no byte is kept.
+#[tactic(auto, unfolding(crate::specs::Commands::pushed))]
 pub fn push(line: Unfinished, x: u8) -> Unfinished
     ensures { result ≡ pushed line x }
 {
-    let n = line.len;
-    if n < 8 {
-        let mut more = line;
-        more.bytes[n] = x;
-        more.len = n + 1;
-        return more;
+    let mut more = line;
+    if more.len < more.bytes.len() {
+        more.bytes[more.len] = x;
+        more.len += 1;
     }
-    line
+    more
 }
 
 // The command of a whole line.
 pub fn parse(line: Unfinished) -> Command
     ensures { result ≡ parsed line }
 {
-    let n = line.len;
-    if n < 8 {
-        let bytes = line.bytes;
-        return text::command(&bytes[..n]);
-    }
-    text::unreadable()
+    let kept = line.len.min(line.bytes.len());
+    text::command(&line.bytes[..kept]).unwrap_or(UNREADABLE)
 }
 
-// The commands of the lines that end in the piece, three numbers each, at the front of the buffer; the rest of it stays.
-// The buffer has to have three numbers for each byte of the piece. Where it has not, the piece is not taken: nothing is read or written.
-pub fn gather(line: Unfinished, piece: &[u8], commands: &mut [u64]) -> Gathered
+// The commands of the lines that end in the piece, at the front of the buffer; the rest of it stays.
+// The buffer has to have a command for each byte of the piece. Where it has not, the piece is not taken: nothing is read or written.
+pub fn gather(line: Unfinished, piece: &[u8], commands: &mut [Command]) -> Option<Gathered>
     ensures { (result ≡ gathered line piece.now commands.old)
         × (commands.new ≡ gathered_in line piece.now commands.old) }
 {
-    if commands.len() / 3 < piece.len() {
-        return Gathered {
-            line,
-            taken: false,
-            count: 0,
-        };
+    if commands.len() < piece.len() {
+        return None;
     }
     let mut held = line;
+    // stays: a count beside the buffer that it fills, and gives back: an iterator over its places is no plainer
     let mut count = 0;
-    let mut i = 0;
-    while i < piece.len() {
-        let x = piece[i];
-        i += 1;
-        if x == NEWLINE {
-            store(commands, 3 * count, parse(held));
+    for x in piece {
+        if *x == NEWLINE {
+            commands[count] = parse(held);
             count += 1;
             held = begin();
         } else {
-            held = push(held, x);
+            held = push(held, *x);
         }
     }
-    Gathered {
-        line: held,
-        taken: true,
-        count,
-    }
-}
-
-// A command's three numbers, from a place of the buffer on.
-fn store(commands: &mut [u64], at: usize, c: Command)
-    requires { at + 3 ≤ length commands.old }
-    ensures { commands.new ≡ sets commands.old at (c.op ∷ c.a ∷ c.b ∷ []) }
-{
-    commands[at] = c.op;
-    commands[at + 1] = c.a as u64;
-    commands[at + 2] = c.b as u64;
+    Some(Gathered { line: held, count })
 }

@@ -32,7 +32,7 @@ pub grown_step : (d k v : ℕ) (l z out : List ℕ) → k < length l → z ≡ g
 grown_step d k v l z out h e f =
     ap₂ (λ (m : List ℕ) (x : ℕ). set m k x) e f ∙ grown_more d k l out h ∙ ap (λ (j : ℕ). grown_in d (take j l) out) (sym (add-one k))
 
-pub take_few : (k : ℕ) (l : List ℕ) → length (take k l) ≤ k
+take_few : (k : ℕ) (l : List ℕ) → length (take k l) ≤ k
 take_few zero l = omega arith
 take_few (suc k) [] = omega arith
 take_few (suc k) (x ∷ l) = omega (arith, take_few k l)

@@ -5,6 +5,7 @@ use Rattle.rules.specs.OneAnswer.{OneAnswer, OneSeen}
 use Rattle.laws.proofs.Contracts.{agree, both_say}
 use Rattle.names.specs.contracts.is_name_in
 use Rattle.names.specs.contracts.counted
+use Rattle.names.specs.contracts.lent
 use Rattle.names.specs.contracts.grow
 use Rattle.names.specs.contracts.is_zero_from
 
@@ -20,3 +21,7 @@ grow_one_answer M 𝓤 𝓛 mem run = (refl, λ κs a g h r s v w. both_say 𝓤
 
 pub is_zero_from_one_answer : OneAnswer is_zero_from.ended (λ M 𝓤 𝓛. is_zero_from.clauses 𝓛) (λ M 𝓤 𝓛. is_zero_from.spec 𝓛)
 is_zero_from_one_answer M 𝓤 𝓛 mem run = (refl, λ κs a g h r s v w. both_say 𝓤 (λ e f. (agree e f, refl)))
+
+-- of both names, the words
+pub lent_one_answer : OneSeen lent.ended (λ κs. List ℕ × List ℕ) (λ κs r. (r.update.now, r.id.now)) (λ M 𝓤 𝓛. lent.clauses 𝓛) (λ M 𝓤 𝓛. lent.spec 𝓛)
+lent_one_answer M 𝓤 𝓛 mem run = (refl, λ κs a g h r s v w. both_say 𝓤 (λ e f. (λ i. (agree e.0 f.0 i, agree e.1 f.1 i), refl)))

@@ -1,10 +1,9 @@
 -- How many answers have room, and what is left of them: who prints what is left again, in a buffer that the longest fits, prints at least
 -- one each time, and in the end all. Assumes nothing.
-use Rattle.laws.proofs.Library.{◌≡◌, refl, ap, List, [], ◌∷◌, ◌++◌, ℕ, zero, suc, ◌+◌, ◌*◌, ◌-◌, ◌/◌, ◌≤◌, ◌<◌, sub-zero, arith, le-leb, lt-leb, leb-true, leb}
-use Rattle.laws.proofs.Library.{length, take, take-append-drop, drop, length-drop, length-append, drop-drop}
+use Rattle.laws.proofs.Library.{◌≡◌, refl, List, [], ◌∷◌, ◌++◌, ℕ, suc, ◌-◌, ◌≤◌, ◌<◌, arith, le-leb, lt-leb, leb-true, leb}
+use Rattle.laws.proofs.Library.{length, take, take-append-drop, drop, length-append}
 use Rattle.rules.specs.Traces.{Text}
 use Rattle.lines.specs.declared.Command.{Command}
-use Rattle.lines.specs.Commands.{commands_in, held_in}
 use Rattle.lines.proofs.Splits.{either}
 use Rattle.printing.specs.Answers.{longest, answer_text, answers_text, fitting, fits, text_in}
 use Rattle.printing.proofs.Texts.{answer_room}
@@ -53,41 +52,21 @@ fitting_some : (cs : List Command) (room : ℕ) → longest ≤ room → 1 ≤ l
 fitting_some [] room h k = absurd (omega arith)
 fitting_some (c ∷ cs) room h k = rw (fitting_more room c cs h) (omega arith)
 
--- ---- by the numbers in the buffer
+-- ---- in a buffer
 
-held_length : (n : ℕ) (l : List ℕ) → length (commands_in n l) ≡ n
-unfolding commands_in
-held_length zero l = refl
-held_length (suc n) l = ap suc (held_length n (drop 3 l))
+module _ (commands : List Command) (out : List ℕ) where
+  pub fits_few : fits commands out ≤ length commands
+  fits_few = fitting_few commands (length out)
 
-held_behind : (k n : ℕ) (l : List ℕ) → commands_in (n - k) (drop (3 * k) l) ≡ drop k (commands_in n l)
-unfolding commands_in
-held_behind zero n l = rw sub-zero
-held_behind (suc k) zero l = let none : 0 - suc k ≡ 0 = omega arith in rw none
-held_behind (suc k) (suc n) l =
-    let less : suc n - suc k ≡ n - k = omega arith in
-    let behind : 3 * suc k ≡ 3 + 3 * k = omega arith in
-    rw (less, behind, ← drop-drop (3 * k) 3 l) (held_behind k n (drop 3 l))
-
--- the numbers behind k commands hold those that are left
-pub held_left : (k : ℕ) (l : List ℕ) → held_in (drop (3 * k) l) ≡ drop k (held_in l)
-held_left k l =
-    let count : length (drop (3 * k) l) / 3 ≡ length l / 3 - k = omega (arith, length-drop (3 * k) l) in
-    rw count (held_behind k (length l / 3) l)
-
-module _ (commands out : List ℕ) where
-  pub fits_few : fits commands out ≤ length commands / 3
-  fits_few = omega (arith, fitting_few (held_in commands) (length out), held_length (length commands / 3) commands)
-
-  pub fits_some : longest ≤ length out → 3 ≤ length commands → 1 ≤ fits commands out
-  fits_some h k = fitting_some (held_in commands) (length out) h (omega (arith, held_length (length commands / 3) commands))
+  pub fits_some : longest ≤ length out → 1 ≤ length commands → 1 ≤ fits commands out
+  fits_some h k = fitting_some commands (length out) h k
 
   pub text_room : length (text_in commands out) ≤ length out
   unfolding fitted
-  text_room = fitted_room (held_in commands) (length out)
+  text_room = fitted_room commands (length out)
 
   -- the text printed, and that of the answers left, is the text of all
-  pub text_then : text_in commands out ++ answers_text (held_in (drop (3 * fits commands out) commands)) ≡ answers_text (held_in commands)
+  pub text_then : text_in commands out ++ answers_text (drop (fits commands out) commands) ≡ answers_text commands
   text_then =
       let k = fits commands out in
-      rw (held_left k commands, ← answers_append (take k (held_in commands)) (drop k (held_in commands)), take-append-drop k (held_in commands))
+      rw (← answers_append (take k commands) (drop k commands), take-append-drop k commands)

@@ -2,19 +2,16 @@
 -- A table's slots are below 100 so that two digits show them, and no line changes a table's size; and the strings of copies in conflict are
 -- those of lawful records, so their words tell them. Assumes nothing.
 use Rattle.laws.proofs.Library.{◌≡◌, refl, sym, ap₂, ◌∙◌, Bool, true, false, ◌||◌, List, [], ◌∷◌, ◌++◌, append_assoc, ℕ, suc, ◌≤◌, ◌<◌}
-use Rattle.laws.proofs.Library.{le_trans, arith, leb-false, eqb-false, leb, length, set, replicate, length-set, length-replicate}
+use Rattle.laws.proofs.Library.{le_trans, arith, leb-false, eqb-false, leb, length, set, replicate, length-set, length-replicate, Ok, Err}
 use Rattle.rules.specs.Limits.{Limits, records}
 use Rattle.rules.specs.Stamps.{start}
 use Rattle.rules.specs.Stored.{stored, blank, absent}
-use Rattle.rules.specs.Refusals.{first}
+use Rattle.rules.specs.Refusals.{Answer, first}
 use Rattle.rules.specs.Tables.{Table, stepped, bad_size, no_slot, lowest, full, fresh_table, update_at, fork_at, join_at, compare_at, standing_at, spare_at}
 use Rattle.rules.specs.Traces.{Text, Line, update, fork, join, compare, spare, unreadable, read_lines, lines_of}
 use Rattle.rules.specs.Traces.{lacked_at, line_text, line_table, traced_from, traced}
 use Rattle.rules.specs.declared.Refusal.{Refusal}
 use Rattle.rules.specs.declared.Refusal.TheVariants.{NoSlot, Unfit}
-use Rattle.rules.specs.declared.Answer.{Answer}
-use Rattle.rules.specs.declared.Answer.TheVariants.{Done, Refused}
-use Rattle.rules.specs.declared.Slot.TheVariants.{At}
 use Rattle.laws.proofs.Tests.{no}
 use Rattle.laws.proofs.Standing.{first_done, conflict_short}
 use Rattle.laws.proofs.Words.{str_word}
@@ -35,13 +32,13 @@ lowest_le L [] = omega arith
 lowest_le L (r ∷ t) = either (λ (k : ℕ). k ≤ suc (length t)) (absent L r) (λ e. omega arith) (λ e. omega (arith, lowest_le L t))
 
 -- the slot of an accepted step is its own
-step_slot : (w : Answer) (a n : ℕ) (old new : Table) → (stepped w a old new).answer ≡ At n → (w ≡ Done) × (a ≡ n)
-step_slot Done a n old new e = (refl, cc)
-step_slot (Refused r) a n old new e = absurd (let z : ◌≡◌ {A = ℕ} 0 1 = cc in omega arith)
+step_slot : (w : Answer) (a n : ℕ) (old new : Table) → (stepped w a old new).answer ≡ Ok n → (w ≡ Ok tt) × (a ≡ n)
+step_slot (Ok x) a n old new e = (refl, cc)
+step_slot (Err r) a n old new e = absurd (let z : ◌≡◌ {A = ℕ} 0 1 = cc in omega arith)
 
 step_size : (w : Answer) (a : ℕ) (old new : Table) → length new ≡ length old → length (stepped w a old new).table ≡ length old
-step_size Done a old new e = e
-step_size (Refused r) a old new e = refl
+step_size (Ok x) a old new e = e
+step_size (Err r) a old new e = refl
 
 -- a slot that is there is below the table's size
 slot_below : (L : Limits) (t : Table) (a : ℕ) → no_slot L t a ≡ false → a < length t
@@ -64,27 +61,25 @@ module _ (L : Limits) (t : Table) where
 
   -- the slot named in an answer is in the table: the call's own, or the lowest absent one
   own_slot : (a n : ℕ) (more : List (Bool × Refusal)) (new : Table)
-      → (stepped (first ((bad_size t, Unfit) ∷ (no_slot L t a, NoSlot) ∷ more)) a t new).answer ≡ At n → n < length t
+      → (stepped (first ((bad_size t, Unfit) ∷ (no_slot L t a, NoSlot) ∷ more)) a t new).answer ≡ Ok n → n < length t
   own_slot a n more new e =
       let w = step_slot (first ((bad_size t, Unfit) ∷ (no_slot L t a, NoSlot) ∷ more)) a n t new e in
       omega (arith, slot_below L t a (first_done _ _ _ (first_done _ _ _ w.0).1).0, w.1)
 
-  update_slot : (a n : ℕ) → (update_at L t a).answer ≡ At n → n < length t
+  update_slot : (a n : ℕ) → (update_at L t a).answer ≡ Ok n → n < length t
   unfolding update_at
   update_slot a n e = own_slot a n _ _ e
 
-  join_slot : (a b n : ℕ) → (join_at L t a b).answer ≡ At n → n < length t
+  join_slot : (a b n : ℕ) → (join_at L t a b).answer ≡ Ok n → n < length t
   unfolding join_at
   join_slot a b n e = own_slot a n _ _ e
 
-  fork_slot_lem : (a n : ℕ) → (fork_at L t a).answer ≡ At n → n < length t
+  fork_slot_lem : (a n : ℕ) → (fork_at L t a).answer ≡ Ok n → n < length t
   unfolding fork_at full
   fork_slot_lem a n e =
       let w = step_slot _ (lowest L t) n t _ e in
       let f = (first_done _ _ _ (first_done _ _ _ (first_done _ _ _ (first_done _ _ _ w.0).1).1).1).0 in
       omega (arith, lowest_le L t, eqb-false (lowest L t) (length t) f, w.1)
-
--- ---- a conflict's strings
 
 -- ---- one line
 

@@ -1,21 +1,16 @@
 -- What an answer's numbers print is what the rules print for the answer, and none is longer than the longest. Assumes nothing.
 use Rattle.laws.proofs.Library.{◌≡◌, refl, ap₂, Bool, true, false, cond, ◌||◌, [], ◌∷◌, ◌++◌, ℕ, ◌+◌, ◌/◌, ◌%◌, ◌≤◌, ◌<◌, mod-eq_of_lt, arith, lt-ltb, le-ltb}
-use Rattle.laws.proofs.Library.{ne_eqb, eqb, ltb, length, length-append}
+use Rattle.laws.proofs.Library.{ne_eqb, eqb, ltb, length, length-append, Ok, Err}
 use Rattle.rules.specs.Strings.{Str, str_of}
 use Rattle.rules.specs.Refusals.{number}
-use Rattle.rules.specs.Values.{placed}
-use Rattle.rules.specs.Tables.{slot_number, spared_number}
+use Rattle.rules.specs.Values.{Compared, placed}
+use Rattle.rules.specs.Tables.{Slot, Sparing, slot_number, spared_number}
 use Rattle.rules.specs.Traces.{Text, ok_text, refused_text, conflict_text, verdict_text, slot_text, compared_text, spared_text}
 use Rattle.rules.specs.declared.Uncovered.{Uncovered}
 use Rattle.rules.specs.declared.Verdict.TheVariants.{Equal, Obsolete, Newer, Conflict}
 use Rattle.rules.specs.declared.Refusal.{Refusal}
 use Rattle.rules.specs.declared.Refusal.TheVariants.{Malformed, Unlawful, NoSlot, OneSlot, Full, Long, Many, Overlap, Unseen, Short, Unread, Unfit, Ended}
-use Rattle.rules.specs.declared.Compared.{Compared}
-use Rattle.rules.specs.declared.Compared.TheVariants.{Is, Refused as NotCompared}
-use Rattle.rules.specs.declared.Slot.{Slot}
-use Rattle.rules.specs.declared.Slot.TheVariants.{At, Refused}
-use Rattle.rules.specs.declared.Spared.{Spared}
-use Rattle.rules.specs.declared.Spared.TheVariants.{Spare, Kept, Refused as NotTold}
+use Rattle.rules.specs.declared.Spared.TheVariants.{Spare, Kept}
 use Rattle.lines.specs.declared.Command.{Command}
 use Rattle.lines.specs.Runs.{stood}
 use Rattle.lines.proofs.Splits.{either}
@@ -52,26 +47,26 @@ pub ok_text_lem : (a : ℕ) → a < 100 → slot_answer a ≡ ok_text a
 unfolding slot_answer ok_number ok_text number_text
 ok_text_lem a h = rw (lt-ltb a 1000 (omega arith), mod-eq_of_lt h)
 
-pub slot_text_lem : (s : Slot) → ((a : ℕ) → s ≡ At a → a < 100) → slot_answer (slot_number s) ≡ slot_text s
+pub slot_text_lem : (s : Slot) → ((a : ℕ) → s ≡ Ok a → a < 100) → slot_answer (slot_number s) ≡ slot_text s
 unfolding slot_answer
-slot_text_lem (At a) h = ok_text_lem a (h a refl)
-slot_text_lem (Refused r) h = rw (le-ltb (1000 + number r) 1000 (omega arith)) (refused_text_lem r)
+slot_text_lem (Ok a) h = ok_text_lem a (h a refl)
+slot_text_lem (Err r) h = rw (le-ltb (1000 + number r) 1000 (omega arith)) (refused_text_lem r)
 
 -- a compare's answer, where a conflict's words tell the strings x and y
-pub stood_text : (d : Compared) (a b : ℕ) (p q : Uncovered) (x y : Str) → (d ≡ Is Conflict → (str_of p.word ≡ x) × (str_of q.word ≡ y))
+pub stood_text : (d : Compared) (a b : ℕ) (p q : Uncovered) (x y : Str) → (d ≡ Ok Conflict → (str_of p.word ≡ x) × (str_of q.word ≡ y))
     → answer_text (stood (record { op = 67; a = a; b = b }) (placed d p q)) ≡ compared_text d x y
 unfolding answer_text compared_answer verdict_text
-stood_text (Is Equal) a b p q x y h = refl
-stood_text (Is Obsolete) a b p q x y h = refl
-stood_text (Is Newer) a b p q x y h = refl
-stood_text (Is Conflict) a b p q x y h = ap₂ conflict_text (h refl).0 (h refl).1
-stood_text (NotCompared r) a b p q x y h = rw (big r 0 (omega arith), big r 1 (omega arith), big r 2 (omega arith)) (refused_text_lem r)
+stood_text (Ok Equal) a b p q x y h = refl
+stood_text (Ok Obsolete) a b p q x y h = refl
+stood_text (Ok Newer) a b p q x y h = refl
+stood_text (Ok Conflict) a b p q x y h = ap₂ conflict_text (h refl).0 (h refl).1
+stood_text (Err r) a b p q x y h = rw (big r 0 (omega arith), big r 1 (omega arith), big r 2 (omega arith)) (refused_text_lem r)
 
-pub spared_text_lem : (d : Spared) → spared_answer (spared_number d) ≡ spared_text d
+pub spared_text_lem : (d : Sparing) → spared_answer (spared_number d) ≡ spared_text d
 unfolding spared_answer
-spared_text_lem Spare = refl
-spared_text_lem Kept = refl
-spared_text_lem (NotTold r) = rw (big r 0 (omega arith), big r 1 (omega arith)) (refused_text_lem r)
+spared_text_lem (Ok Spare) = refl
+spared_text_lem (Ok Kept) = refl
+spared_text_lem (Err r) = rw (big r 0 (omega arith), big r 1 (omega arith)) (refused_text_lem r)
 
 -- ---- an answer has room: one number's text takes 11 bytes at most, and two strings' the longest
 

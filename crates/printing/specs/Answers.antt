@@ -1,12 +1,11 @@
 -- What answered commands print.
-use Rattle.std.specs.Prelude.{cond, ◌||◌, List, [], ◌∷◌, ◌++◌, ℕ, zero, suc, ◌-◌, ◌%◌, eqb, leb, ltb, length, take}
+use Rattle.std.specs.Prelude.{cond, ◌||◌, List, [], ◌∷◌, ◌++◌, ℕ, zero, suc, ◌-◌, ◌%◌, eqb, leb, ltb, length, take, Ok}
 use Rattle.rules.specs.Strings.{str_of}
 use Rattle.rules.specs.Traces.{Text, decimal, conflict_text, verdict_text, spared_text}
 use Rattle.rules.specs.Packed.{over}
 use Rattle.rules.specs.declared.Verdict.TheVariants.{Equal, Obsolete, Newer}
 use Rattle.rules.specs.declared.Spared.TheVariants.{Spare, Kept}
 use Rattle.lines.specs.declared.Command.{Command}
-use Rattle.lines.specs.Commands.{held_in}
 use Rattle.printing.specs.declared.Printed.{Printed}
 
 -- a number's two last digits, then newline
@@ -32,7 +31,7 @@ compared_answer code =
     (cond (eqb code 1) (verdict_text Obsolete [] []) (cond (eqb code 2) (verdict_text Newer [] []) (refused_number code)))
 
 unfoldable pub spared_answer : ℕ → Text
-spared_answer code = cond (eqb code 0) (spared_text Kept) (cond (eqb code 1) (spared_text Spare) (refused_number code))
+spared_answer code = cond (eqb code 0) (spared_text (Ok Kept)) (cond (eqb code 1) (spared_text (Ok Spare)) (refused_number code))
 
 -- by the letter: `a` is the answer's number, but of a conflict, whose letter is c (99), `a` and `b` are the words of the two strings;
 -- without a letter the line was unreadable, refusal 11
@@ -57,16 +56,16 @@ unfoldable pub fitting : ℕ → List Command → ℕ
 fitting room [] = zero
 fitting room (c ∷ cs) = cond (leb longest room) (suc (fitting (room - length (answer_text c)) cs)) zero
 
-abbrev pub fits : List ℕ → List ℕ → ℕ
-fits commands out = fitting (length out) (held_in commands)
+abbrev pub fits : List Command → List ℕ → ℕ
+fits commands out = fitting (length out) commands
 
 -- the text of those that are written
-abbrev pub text_in : List ℕ → List ℕ → Text
-text_in commands out = answers_text (take (fits commands out) (held_in commands))
+abbrev pub text_in : List Command → List ℕ → Text
+text_in commands out = answers_text (take (fits commands out) commands)
 
-unfoldable pub printed : List ℕ → List ℕ → Printed
+unfoldable pub printed : List Command → List ℕ → Printed
 printed commands out = record { count = fits commands out; len = length (text_in commands out) }
 
 -- the text at the front, and the rest as it was
-unfoldable pub printed_in : List ℕ → List ℕ → List ℕ
+unfoldable pub printed_in : List Command → List ℕ → List ℕ
 printed_in commands out = over (text_in commands out) out

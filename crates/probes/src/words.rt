@@ -12,8 +12,8 @@ pub(crate) fn record_in(words: &[u64; 34]) -> Record
 {
     let mut u = [0; 16];
     let mut i = [0; 16];
-    copy(words, 1, &mut u, 0);
-    copy(words, 18, &mut i, 0);
+    u.copy_from_slice(&words[1..17]);
+    i.copy_from_slice(&words[18..34]);
     let update = Words {
         count: words[0] as usize,
         words: u,
@@ -30,19 +30,7 @@ pub(crate) fn put_record(r: Record, out: &mut [u64; 34])
     ensures { out.new ≡ record_words r }
 {
     out[0] = r.update.count as u64;
-    copy(&r.update.words, 0, out, 1);
+    out[1..17].copy_from_slice(&r.update.words);
     out[17] = r.id.count as u64;
-    copy(&r.id.words, 0, out, 18);
-}
-
-// The 16 words from index i on, into the places from j on.
-fn copy(from: &[u64], i: usize, to: &mut [u64], j: usize)
-    requires { (i + 16 ≤ length from.now) × (j + 16 ≤ length to.old) }
-    ensures { to.new ≡ sets to.old j (slice i (i + 16) from.now) }
-{
-    let mut k = 0;
-    while k < 16 {
-        to[j + k] = from[i + k];
-        k += 1;
-    }
+    out[18..34].copy_from_slice(&r.id.words);
 }

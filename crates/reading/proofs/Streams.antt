@@ -1,8 +1,9 @@
 -- What the readers cite: bytes as bits and as numbers, bits moved up in a word, and parts of a list. Assumes nothing.
-use Rattle.laws.proofs.Library.{◌≡◌, sym, ap, ap₂, ◌∙◌, Bool, List, [], ◌∷◌, ◌++◌, append_assoc, ℕ, zero, suc, ◌+◌, ◌*◌, ◌-◌, ◌/◌, ◌%◌, ◌^◌, ◌≤◌, ◌<◌}
-use Rattle.laws.proofs.Library.{mod-eq_of_lt, add-zero, mul-mod_left, add-one, arith, length, get_or, take, drop, set, length-drop, pow_pos, shl-shr, shr_lt}
-use Rattle.laws.proofs.Library.{mod-pow-add, length-take-le, take-suc, drop-cons, set_at, take_at, drop_at, take-append-le, take-take, drop-drop, take-add}
+use Rattle.laws.proofs.Library.{◌≡◌, refl, sym, ap, ap₂, ◌∙◌, Bool, List, [], ◌∷◌, ◌++◌, ℕ, zero, suc, ◌+◌, ◌*◌, ◌-◌, ◌/◌, ◌%◌, ◌^◌, ◌≤◌, ◌<◌}
+use Rattle.laws.proofs.Library.{mod-eq_of_lt, add-zero, mul-mod_left, arith, length, get_or, take, drop, length-drop, pow_pos, shl-shr, shr_lt}
+use Rattle.laws.proofs.Library.{mod-pow-add, length-take-le, drop-cons, take_at, drop_at, take-append-le, take-take, drop-drop, take-add}
 use Rattle.laws.proofs.Library.{drop-nil, take-nil}
+use Rattle.std.specs.Int.{w64, from_be_bytes}
 use Rattle.rules.specs.Strings.{field, value_from, value}
 use Rattle.rules.specs.Packed.{bits_of}
 use Rattle.laws.proofs.Bits.{field_length, value_append, value_shift, value_field, value_field_exact, field_value}
@@ -12,15 +13,6 @@ use Rattle.reading.specs.Reading.{stream}
 use Rattle.layout.proofs.Values.{field_join}
 
 -- ---- lists
-
--- one element more is copied to the front of d
-pub copied_more : (s d : List ℕ) (k : ℕ) → k < length s → k < length d → set (take k s ++ drop k d) k (get_or s k 0) ≡ take (k + 1) s ++ drop (k + 1) d
-copied_more s d k h g =
-    ap (λ (l : List ℕ). set (take k s ++ l) k (get_or s k 0)) (drop-cons d k 0 g)
-    ∙ set_at (take k s) (get_or d k 0) (drop (suc k) d) (get_or s k 0) k (length-take-le k s (omega arith))
-    ∙ sym (append_assoc (take k s) (get_or s k 0 ∷ []) (drop (suc k) d))
-    ∙ ap₂ (λ (l : List ℕ) (n : ℕ). l ++ drop n d) (sym (take-suc s k 0 h)) (sym (add-one k))
-    ∙ ap (λ (n : ℕ). take n s ++ drop (k + 1) d) (sym (add-one k))
 
 module _ {A : Type 0} where
   -- a part that ends within the first m is a part of all
@@ -32,7 +24,7 @@ module _ {A : Type 0} where
 
 -- ---- bytes
 
-pub bits_drop : (n : ℕ) (b : List ℕ) → drop (n * 8) (bits_of b) ≡ bits_of (drop n b)
+bits_drop : (n : ℕ) (b : List ℕ) → drop (n * 8) (bits_of b) ≡ bits_of (drop n b)
 unfolding bits_of
 bits_drop zero b = ap (λ (k : ℕ). drop k (bits_of b)) (let e : 0 * 8 ≡ 0 = omega arith in e)
 bits_drop (suc n) [] = drop-nil (suc n * 8)
@@ -60,48 +52,34 @@ byte_behind a x b h =
     ∙ ap (λ (n : ℕ). value_from n (bits_of b))
     (value_shift a (field 8 x) ∙ ap₂ (λ (m n : ℕ). a * 2 ^ m + n) (field_length 8 x) (value_field 8 x ∙ mod-eq_of_lt h))
 
-four_here : (b : List ℕ) (at : ℕ) → at + 4 ≤ length b
-    → take 4 (drop at b) ≡ get_or b at 0 ∷ get_or b (at + 1) 0 ∷ get_or b (at + 2) 0 ∷ get_or b (at + 3) 0 ∷ []
-four_here b at h =
-    let e1 : suc at ≡ at + 1 = omega arith in
-    let e2 : suc (at + 1) ≡ at + 2 = omega arith in
-    let e3 : suc (at + 2) ≡ at + 3 = omega arith in
-    ap (take 4) (drop-cons b at 0 (omega arith))
-    ∙ ap (λ (n : ℕ). get_or b at 0 ∷ take 3 (drop n b)) e1
-    ∙ ap (λ (l : List ℕ). get_or b at 0 ∷ take 3 l) (drop-cons b (at + 1) 0 (omega arith))
-    ∙ ap (λ (n : ℕ). get_or b at 0 ∷ get_or b (at + 1) 0 ∷ take 2 (drop n b)) e2
-    ∙ ap (λ (l : List ℕ). get_or b at 0 ∷ get_or b (at + 1) 0 ∷ take 2 l) (drop-cons b (at + 2) 0 (omega arith))
-    ∙ ap (λ (n : ℕ). get_or b at 0 ∷ get_or b (at + 1) 0 ∷ get_or b (at + 2) 0 ∷ take 1 (drop n b)) e3
-    ∙ ap (λ (l : List ℕ). get_or b at 0 ∷ get_or b (at + 1) 0 ∷ get_or b (at + 2) 0 ∷ take 1 l) (drop-cons b (at + 3) 0 (omega arith))
+-- n bytes of b from k on, one by one
+abbrev bytes_from : ℕ → ℕ → List ℕ → List ℕ
+bytes_from zero k b = []
+bytes_from (suc n) k b = get_or b k 0 ∷ bytes_from n (suc k) b
 
--- four bytes, as the number that their bits say
-pub four_value : (b : List ℕ) (at x y z u : ℕ) → at + 4 ≤ length b → x ≡ get_or b at 0 → y ≡ get_or b (at + 1) 0 → z ≡ get_or b (at + 2) 0 → u ≡ get_or b (at + 3) 0
-    → x < 256 → y < 256 → z < 256 → u < 256 → ((x * 256 + y) * 256 + z) * 256 + u ≡ value (take 32 (drop (at * 8) (bits_of b)))
+bytes_are_part : (n k : ℕ) (b : List ℕ) → k + n ≤ length b → take n (drop k b) ≡ bytes_from n k b
+bytes_are_part zero k b h = refl
+bytes_are_part (suc n) k b h =
+    ap (take (suc n)) (drop-cons b k 0 (omega arith)) ∙ ap (λ (l : List ℕ). get_or b k 0 ∷ l) (bytes_are_part n (suc k) b (omega arith))
+
+-- and the number that they say behind a
+abbrev number_from : ℕ → ℕ → List ℕ → ℕ → ℕ
+number_from zero k b a = a
+number_from (suc n) k b a = number_from n (suc k) b (a * 256 + get_or b k 0)
+
+bytes_number : (n k : ℕ) (b : List ℕ) (a : ℕ) → ((i : ℕ) → get_or b i 0 < 256) → value_from a (bits_of (bytes_from n k b)) ≡ number_from n k b a
 unfolding bits_of value_from
-four_value b at x y z u h ex ey ez eu hx hy hz hu =
-    let n = (x * 256 + y) * 256 + z in
-    sym
-    (ap (λ (l : List Bool). value (take 32 l)) (bits_drop at b)
-    ∙ ap value (bits_take 4 (drop at b))
-    ∙ ap (λ (l : List ℕ). value (bits_of l)) (four_here b at h)
-    ∙ ap₂ (λ (p q : ℕ). value (bits_of (p ∷ q ∷ get_or b (at + 2) 0 ∷ get_or b (at + 3) 0 ∷ []))) (sym ex) (sym ey)
-    ∙ ap₂ (λ (p q : ℕ). value (bits_of (x ∷ y ∷ p ∷ q ∷ []))) (sym ez) (sym eu)
-    ∙ byte_behind 0 x (y ∷ z ∷ u ∷ []) hx
-    ∙ ap (λ (k : ℕ). value_from k (bits_of (y ∷ z ∷ u ∷ []))) (let e : 0 * 256 + x ≡ x = omega arith in e)
-    ∙ byte_behind x y (z ∷ u ∷ []) hy
-    ∙ byte_behind (x * 256 + y) z (u ∷ []) hz
-    ∙ byte_behind n u [] hu)
+bytes_number zero k b a h = refl
+bytes_number (suc n) k b a h = byte_behind a (get_or b k 0) (bytes_from n (suc k) b) (h k) ∙ bytes_number n (suc k) b (a * 256 + get_or b k 0) h
 
--- a part of n bits from p on, and one of m behind it
-pub parts_value : (p n m : ℕ) (l : List Bool) → p + n + m ≤ length l
-    → value (take n (drop p l)) * 2 ^ m + value (take m (drop (p + n) l)) ≡ value (take (n + m) (drop p l))
-parts_value p n m l h =
-    let s = take m (drop (p + n) l) in
-    sym
-    (ap value (take-add n m (drop p l) ∙ ap (λ (t : List Bool). take n (drop p l) ++ take m t) (drop-drop n p l))
-    ∙ value_append 0 (take n (drop p l)) s
-    ∙ value_shift (value (take n (drop p l))) s
-    ∙ ap (λ (k : ℕ). value (take n (drop p l)) * 2 ^ k + value s) (length-take-le m (drop (p + n) l) (omega (arith, length-drop (p + n) l))))
+-- eight bytes, as the number that their bits say
+pub eight_value : (b : List ℕ) (at : ℕ) → at + 8 ≤ length b → ((i : ℕ) → get_or b i 0 < 256)
+    → from_be_bytes w64 (take 8 (drop at b)) ≡ value (take 64 (drop (at * 8) (bits_of b)))
+eight_value b at h f =
+    let here = bytes_are_part 8 at b h in
+    let sum : from_be_bytes w64 (bytes_from 8 at b) ≡ number_from 8 at b 0 = omega arith in
+    ap (from_be_bytes w64) here ∙ sum ∙ sym (bytes_number 8 at b 0 f) ∙ ap (λ (l : List ℕ). value (bits_of l)) (sym here)
+    ∙ sym (ap (λ (l : List Bool). value (take 64 l)) (bits_drop at b) ∙ ap value (bits_take 8 (drop at b)))
 
 -- the number that w bits say has those bits
 pub value_fields : (w v : ℕ) (s : List Bool) → length s ≡ w → v ≡ value s → field w v ≡ s

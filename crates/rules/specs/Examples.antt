@@ -1,25 +1,23 @@
 -- "Checked by hand": P1 to P10, and two cases more, by one theorem over one list. Beside an example stands the slip that it shuts out.
-use Rattle.std.specs.Prelude.{◌≡◌, refl, Bool, true, false, List, [], ◌∷◌, ◌++◌, map, ℕ, zero, suc, drop}
+use Rattle.std.specs.Prelude.{◌≡◌, refl, Bool, true, false, List, [], ◌∷◌, ◌++◌, map, ℕ, zero, suc, drop, Result, Ok, Err}
 use Rattle.rules.specs.Limits.{narrow}
 use Rattle.rules.specs.Strings.{Str, prefix, same, less, field, value_from, aligned, word_of, str_of}
 use Rattle.rules.specs.Names.{Name, any, all, keep, member, rising, is_name, covered, below, uncovered, lacked, insert, sorted, outgrown, union}
 use Rattle.rules.specs.Stamps.{Stamp, start, pair_among, pair, lawful, update, append, fork, settle, settled, reduce_by, reduce, unite, join, compare}
 use Rattle.rules.specs.Stored.{words_of, stored, strs_in, held, same_numbers, same_words, same_record, is_stored, unlawful, blank, absent}
 use Rattle.rules.specs.Refusals.{first, long, many, touches, overlap, unknown_to, unseen}
-use Rattle.rules.specs.Values.{updated, forked, joined, compared, standing}
+use Rattle.rules.specs.Values.{Compared, updated, forked, joined, compared, standing}
 use Rattle.rules.specs.Packed.{string_bits, strings_bits, name_bits, stamp_bits, bytes_of, pack_bits, packed}
 use Rattle.rules.specs.Tables.{bad_size, no_slot, lowest, full, fresh_table, update_at, fork_at, join_at, compare_at, spare_from, spare_at}
 use Rattle.rules.specs.Traces.{split_at, drop_empty_last, lines_of, slot_of, read_line, ok_text, refused_text, digits_text, conflict_text, verdict_text, line_text}
 use Rattle.rules.specs.Traces.{line_table, traced_from, read_lines, traced}
 use Rattle.rules.specs.declared.Verdict.{Verdict}
 use Rattle.rules.specs.declared.Refusal.TheVariants.{Unlawful, Overlap, Unseen}
-use Rattle.rules.specs.declared.Answer.TheVariants.{Done}
-use Rattle.rules.specs.declared.Compared.{Compared}
-use Rattle.rules.specs.declared.Compared.TheVariants.{Is, Refused as NotCompared}
+use Rattle.rules.specs.declared.Record.{Record}
+use Rattle.rules.specs.declared.Refusal.{Refusal}
 use Rattle.rules.specs.declared.Uncovered.{Uncovered}
 use Rattle.rules.specs.declared.Standing.{Standing}
-use Rattle.rules.specs.declared.Given.{Given}
-use Rattle.rules.specs.declared.Forked.{Forked}
+use Rattle.rules.specs.declared.Branches.{Branches}
 
 abbrev o : Bool
 o = false
@@ -34,7 +32,7 @@ e = []
 abbrev stamp : Name → Name → Stamp
 stamp u n = record { update = u; id = n }
 
-abbrev r : Name → Name → Rattle.rules.specs.declared.Record.Record
+abbrev r : Name → Name → Record
 r u n = stored narrow (stamp u n)
 
 -- the strings of the examples
@@ -90,17 +88,17 @@ pub data Said : Type 0 where
   truth : Bool → Said
   name : Name → Said
   bytes : List ℕ → Said
-  gives : Given → Said
-  branches : Forked → Said
+  gives : Result Record Refusal → Said
+  branches : Result Branches Refusal → Said
   compares : Compared → Said
-  stands : Standing → Said
+  stands : Result Standing Refusal → Said
 
 -- the string s, at place k
 abbrev at : ℕ → Str → Uncovered
 at k s = record { place = k; word = word_of s }
 
-abbrev done : Name → Name → Given
-done u n = record { answer = Done; stamp = r u n }
+abbrev done : Name → Name → Result Record Refusal
+done u n = Ok (r u n)
 
 pub examples : List (Said × Said)
 examples =
@@ -113,7 +111,7 @@ examples =
     ∷ (bytes (packed narrow start), bytes (0x00 ∷ 0x00 ∷ 0x00 ∷ []))
     ∷ (bytes (packed narrow (fork false start)), bytes (0x00 ∷ 0x00 ∷ 0x40 ∷ []))
     ∷ (bytes (packed narrow (fork true start)), bytes (0x00 ∷ 0x00 ∷ 0x60 ∷ []))
-    ∷ (branches (forked narrow (stored narrow start)), branches (record { answer = Done; zero = r (e ∷ []) (s0 ∷ []); one = r (e ∷ []) (s1 ∷ []) }))
+    ∷ (branches (forked narrow (stored narrow start)), branches (Ok (record { zero = r (e ∷ []) (s0 ∷ []); one = r (e ∷ []) (s1 ∷ []) })))
     -- P4
     ∷ (gives (updated narrow (r (e ∷ []) (s0 ∷ []))), gives (done (s0 ∷ []) (s0 ∷ [])))
     ∷ (bytes (packed narrow (stamp (s0 ∷ []) (s0 ∷ []))), bytes (0x00 ∷ 0x80 ∷ 0x20 ∷ []))
@@ -124,21 +122,21 @@ examples =
     -- P7: not "reducing u by itself"
     ∷ (gives (joined narrow (r (s0 ∷ []) (s00 ∷ [])) (r (s1 ∷ []) (s1 ∷ []))), gives (done (s0 ∷ s1 ∷ []) (s00 ∷ s1 ∷ [])))
     -- P8: not "comparing ids in place of updates"
-    ∷ (compares (compared narrow (r (s0 ∷ []) (s01 ∷ [])) (r (s0 ∷ s1 ∷ []) (s00 ∷ s1 ∷ []))), compares (Is Verdict.Obsolete))
+    ∷ (compares (compared narrow (r (s0 ∷ []) (s01 ∷ [])) (r (s0 ∷ s1 ∷ []) (s00 ∷ s1 ∷ []))), compares (Ok Verdict.Obsolete))
     -- P9
-    ∷ (compares (compared narrow (r (s0 ∷ []) (s0 ∷ [])) (r (s1 ∷ []) (s1 ∷ []))), compares (Is Verdict.Conflict))
-    ∷ (compares (compared narrow (r (e ∷ []) (s0 ∷ [])) (r (e ∷ []) (s1 ∷ []))), compares (Is Verdict.Equal))
+    ∷ (compares (compared narrow (r (s0 ∷ []) (s0 ∷ [])) (r (s1 ∷ []) (s1 ∷ []))), compares (Ok Verdict.Conflict))
+    ∷ (compares (compared narrow (r (e ∷ []) (s0 ∷ [])) (r (e ∷ []) (s1 ∷ []))), compares (Ok Verdict.Equal))
     -- the uncovered string: not "the first string of all", not "the first's where the second has it"; and both
-    ∷ (stands (standing narrow (r (s0 ∷ []) (s01 ∷ [])) (r (s0 ∷ s1 ∷ []) (s00 ∷ s1 ∷ []))), stands (Standing.Obsolete (at 1 s1)))
-    ∷ (stands (standing narrow (r (s0 ∷ s1 ∷ []) (s00 ∷ s1 ∷ [])) (r (s0 ∷ []) (s01 ∷ []))), stands (Standing.Newer (at 1 s1)))
-    ∷ (stands (standing narrow (r (s0 ∷ s10 ∷ []) (s00 ∷ s10 ∷ [])) (r (s0 ∷ s11 ∷ []) (s01 ∷ s11 ∷ []))), stands (Standing.Conflict (at 1 s10) (at 1 s11)))
-    ∷ (stands (standing narrow (r (e ∷ []) (s0 ∷ [])) (r (e ∷ []) (s1 ∷ []))), stands Standing.Equal)
+    ∷ (stands (standing narrow (r (s0 ∷ []) (s01 ∷ [])) (r (s0 ∷ s1 ∷ []) (s00 ∷ s1 ∷ []))), stands (Ok (Standing.Obsolete (at 1 s1))))
+    ∷ (stands (standing narrow (r (s0 ∷ s1 ∷ []) (s00 ∷ s1 ∷ [])) (r (s0 ∷ []) (s01 ∷ []))), stands (Ok (Standing.Newer (at 1 s1))))
+    ∷ (stands (standing narrow (r (s0 ∷ s10 ∷ []) (s00 ∷ s10 ∷ [])) (r (s0 ∷ s11 ∷ []) (s01 ∷ s11 ∷ []))), stands (Ok (Standing.Conflict (at 1 s10) (at 1 s11))))
+    ∷ (stands (standing narrow (r (e ∷ []) (s0 ∷ [])) (r (e ∷ []) (s1 ∷ []))), stands (Ok Standing.Equal))
     -- 9 asks every uncovered string, not "the first alone": 0 is not below 101 or 11, 10 is
-    ∷ (compares (compared narrow (r (s0 ∷ s10 ∷ []) (s0 ∷ s100 ∷ [])) (r (s11 ∷ []) (s101 ∷ s11 ∷ []))), compares (NotCompared Unseen))
+    ∷ (compares (compared narrow (r (s0 ∷ s10 ∷ []) (s0 ∷ s100 ∷ [])) (r (s11 ∷ []) (s101 ∷ s11 ∷ []))), compares (Err Unseen))
     -- P10
-    ∷ (compares (compared narrow (r (e ∷ []) (s0 ∷ [])) (r (e ∷ []) (s0 ∷ []))), compares (NotCompared Overlap))
-    ∷ (compares (compared narrow (r (s0 ∷ []) (s00 ∷ [])) (r (e ∷ []) (s01 ∷ []))), compares (NotCompared Unseen))
-    ∷ (compares (compared narrow (r (s01 ∷ []) (s0 ∷ [])) (r (s1 ∷ []) (s1 ∷ []))), compares (NotCompared Unlawful))
+    ∷ (compares (compared narrow (r (e ∷ []) (s0 ∷ [])) (r (e ∷ []) (s0 ∷ []))), compares (Err Overlap))
+    ∷ (compares (compared narrow (r (s0 ∷ []) (s00 ∷ [])) (r (e ∷ []) (s01 ∷ []))), compares (Err Unseen))
+    ∷ (compares (compared narrow (r (s01 ∷ []) (s0 ∷ [])) (r (s1 ∷ []) (s1 ∷ []))), compares (Err Unlawful))
     -- not "refusing a join by the number of strings before reduction": 17 before, 16 after
     ∷ (gives (joined narrow (r (e ∷ []) sixteen) (r (e ∷ []) ((o ∷ o ∷ o ∷ o ∷ i ∷ []) ∷ []))), gives (done (e ∷ []) ((o ∷ o ∷ o ∷ o ∷ []) ∷ drop 1 sixteen)))
     -- the trace tool's example, byte for byte

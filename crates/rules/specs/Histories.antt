@@ -1,14 +1,12 @@
 -- Demand 3's calls, the histories of them, and beside each history the event model of definition 2.1 of the paper.
-use Rattle.std.specs.Prelude.{Bool, true, false, not, ◌&&◌, List, [], ◌∷◌, ◌++◌, ℕ, zero, suc, ◌+◌, eqb, length, get_or, set, replicate}
+use Rattle.std.specs.Prelude.{Bool, true, false, not, ◌&&◌, List, [], ◌∷◌, ◌++◌, ℕ, zero, suc, ◌+◌, eqb, length, get_or, set, replicate, Ok, Err}
 use Rattle.rules.specs.Limits.{Limits}
 use Rattle.rules.specs.Names.{any, all}
 use Rattle.rules.specs.Stamps.{verdict, sum_shares}
 use Rattle.rules.specs.Stored.{held}
-use Rattle.rules.specs.Tables.{Table, Step, fresh_table, update_at, fork_at, join_at, present}
+use Rattle.rules.specs.Tables.{Table, Slot, Step, fresh_table, update_at, fork_at, join_at, present}
 use Rattle.rules.specs.declared.Verdict.{Verdict}
 use Rattle.rules.specs.declared.Verdict.TheVariants.{Equal, Obsolete, Newer, Conflict}
-use Rattle.rules.specs.declared.Slot.{Slot}
-use Rattle.rules.specs.declared.Slot.TheVariants.{At, Refused}
 
 -- a call, with any slot numbers
 pub data Call : Type 0 where
@@ -32,18 +30,18 @@ events_at w a = get_or w.events a []
 
 -- "Give each accepted update a new event"
 abbrev pub after_update : World → ℕ → Step → Slot → World
-after_update w a s (At b) = record { table = s.table; events = set w.events a (w.next ∷ events_at w a); next = suc w.next }
-after_update w a s (Refused r) = record { table = s.table; events = w.events; next = w.next }
+after_update w a s (Ok b) = record { table = s.table; events = set w.events a (w.next ∷ events_at w a); next = suc w.next }
+after_update w a s (Err r) = record { table = s.table; events = w.events; next = w.next }
 
 -- "let fork copy the set of events": b is the new slot
 abbrev pub after_fork : World → ℕ → Step → Slot → World
-after_fork w a s (At b) = record { table = s.table; events = set w.events b (events_at w a); next = w.next }
-after_fork w a s (Refused r) = record { table = s.table; events = w.events; next = w.next }
+after_fork w a s (Ok b) = record { table = s.table; events = set w.events b (events_at w a); next = w.next }
+after_fork w a s (Err r) = record { table = s.table; events = w.events; next = w.next }
 
 -- "and join unite two"
 abbrev pub after_join : World → ℕ → ℕ → Step → Slot → World
-after_join w a b s (At c) = record { table = s.table; events = set (set w.events a (events_at w a ++ events_at w b)) b []; next = w.next }
-after_join w a b s (Refused r) = record { table = s.table; events = w.events; next = w.next }
+after_join w a b s (Ok c) = record { table = s.table; events = set (set w.events a (events_at w a ++ events_at w b)) b []; next = w.next }
+after_join w a b s (Err r) = record { table = s.table; events = w.events; next = w.next }
 
 unfoldable pub after : Limits → World → Call → World
 after L w (update a) = let s : Step = update_at L w.table a in after_update w a s s.answer

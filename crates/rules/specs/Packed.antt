@@ -1,5 +1,5 @@
 -- "Packed stamps and bundles": bits, most significant first; writing, reading, and the packed calls.
-use Rattle.std.specs.Prelude.{Bool, false, cond, not, ◌&&◌, ◌||◌, List, [], ◌∷◌, ◌++◌, ℕ, zero, suc, ◌+◌, ◌*◌, ◌-◌, leb, ltb, length, take, drop, replicate}
+use Rattle.std.specs.Prelude.{Bool, false, cond, not, ◌&&◌, ◌||◌, List, [], ◌∷◌, ◌++◌, ℕ, zero, suc, ◌+◌, ◌*◌, ◌-◌, leb, ltb, length, take, drop, replicate, Result, Ok, Err}
 use Rattle.std.proofs.Math.Option.{Option, none, some}
 use Rattle.rules.specs.Limits.{Limits, byte_bits, bytes_for}
 use Rattle.rules.specs.Strings.{Str, less, field, value}
@@ -7,19 +7,13 @@ use Rattle.rules.specs.Names.{Name, any}
 use Rattle.rules.specs.Stamps.{Stamp, lawful}
 use Rattle.rules.specs.Stored.{held, unlawful}
 use Rattle.rules.specs.Refusals.{first, and_then, number, verdict_number}
-use Rattle.rules.specs.Values.{given, updated, forked, joined, compared, stands_as}
+use Rattle.rules.specs.Values.{Compared, given, updated, forked, joined, compared, standing}
 use Rattle.rules.specs.declared.Record.{Record}
 use Rattle.rules.specs.declared.Verdict.{Verdict}
 use Rattle.rules.specs.declared.Refusal.TheVariants.{Malformed, Unlawful, Short}
-use Rattle.rules.specs.declared.Answer.{Answer}
-use Rattle.rules.specs.declared.Answer.TheVariants.{Done, Refused}
-use Rattle.rules.specs.declared.Compared.{Compared}
-use Rattle.rules.specs.declared.Compared.TheVariants.{Is, Refused as NotCompared}
+use Rattle.rules.specs.declared.Refusal.{Refusal}
 use Rattle.rules.specs.declared.Standing.{Standing}
-use Rattle.rules.specs.declared.Given.{Given}
-use Rattle.rules.specs.declared.Forked.{Forked}
-use Rattle.rules.specs.declared.Written.{Written}
-use Rattle.rules.specs.declared.Written.TheVariants.{Bytes, Refused as NotWritten}
+use Rattle.rules.specs.declared.Branches.{Branches}
 
 -- ---- writing
 
@@ -108,78 +102,73 @@ unfoldable pub unpacked : Limits → List ℕ → Option Stamp
 unpacked L b = filled_only (take_stamp L (bits_of b))
 
 -- refusal 1, then 2
-abbrev pub read_as : Limits → Option Stamp → Given
-read_as L none = given L (Refused Malformed) (record { update = []; id = [] })
+abbrev pub read_as : Limits → Option Stamp → Result Record Refusal
+read_as L none = Err Malformed
 read_as L (some s) = given L (first ((not (lawful L s), Unlawful) ∷ [])) s
 
-unfoldable pub read_stamp : Limits → List ℕ → Given
+unfoldable pub read_stamp : Limits → List ℕ → Result Record Refusal
 read_stamp L b = read_as L (unpacked L b)
 
 -- ---- the packed calls: "1 then 2 for the first; 1 then 2 for the second; 8, 9, 6, 7, 10"
 
 -- the answer, and what the lent buffer holds afterwards
 pub record Wrote : Type 0 where
-  pub answer : Written
+  pub answer : Result ℕ Refusal
   pub out : List ℕ
 
 -- "Accepted packed calls write exactly the result's bytes at the front and keep the rest of the buffer"
 abbrev pub over : List ℕ → List ℕ → List ℕ
 over p out = p ++ drop (length p) out
 
-unfoldable pub wrote : Answer → List ℕ → List ℕ → Wrote
-wrote Done p out =
-    cond (ltb (length out) (length p)) (record { answer = NotWritten Short; out = out }) (record { answer = Bytes (length p); out = over p out })
-wrote (Refused r) p out = record { answer = NotWritten r; out = out }
+unfoldable pub wrote : Result (List ℕ) Refusal → List ℕ → Wrote
+wrote (Ok p) out =
+    cond (ltb (length out) (length p)) (record { answer = Err Short; out = out }) (record { answer = Ok (length p); out = over p out })
+wrote (Err r) out = record { answer = Err r; out = out }
+
+-- the bytes of a stamp that was not refused
+abbrev pub bytes_in : Limits → Result Record Refusal → Result (List ℕ) Refusal
+bytes_in L g = and_then g (λ r. Ok (packed L (held r)))
 
 -- "writing a stamp checks 2, then 10"
 unfoldable pub written_stamp : Limits → Record → List ℕ → Wrote
-written_stamp L r out = wrote (first ((unlawful L r, Unlawful) ∷ [])) (packed L (held r)) out
+written_stamp L r out = wrote (and_then (first ((unlawful L r, Unlawful) ∷ [])) (λ x. Ok (packed L (held r)))) out
 
 unfoldable pub packed_update : Limits → List ℕ → List ℕ → Wrote
-packed_update L s out =
-    let g : Given = read_stamp L s in
-    let u : Given = updated L g.stamp in
-    wrote (and_then g.answer u.answer) (packed L (held u.stamp)) out
+packed_update L s out = wrote (bytes_in L (and_then (read_stamp L s) (updated L))) out
+
+-- of two packed stamps, the first is read first
+abbrev pub both_read : {A : Type 0} → Limits → List ℕ → List ℕ → (Record → Record → Result A Refusal) → Result A Refusal
+both_read L s t f = and_then (read_stamp L s) (λ a. and_then (read_stamp L t) (f a))
 
 unfoldable pub packed_join : Limits → List ℕ → List ℕ → List ℕ → Wrote
-packed_join L s t out =
-    let g : Given = read_stamp L s in
-    let h : Given = read_stamp L t in
-    let j : Given = joined L g.stamp h.stamp in
-    wrote (and_then g.answer (and_then h.answer j.answer)) (packed L (held j.stamp)) out
-
-abbrev pub compared_after : Answer → Compared → Compared
-compared_after Done c = c
-compared_after (Refused r) c = NotCompared r
+packed_join L s t out = wrote (bytes_in L (both_read L s t (joined L))) out
 
 unfoldable pub packed_compare : Limits → List ℕ → List ℕ → Compared
-packed_compare L s t =
-    let g : Given = read_stamp L s in
-    let h : Given = read_stamp L t in
-    compared_after (and_then g.answer h.answer) (compared L g.stamp h.stamp)
+packed_compare L s t = both_read L s t (compared L)
 
-unfoldable pub packed_standing : Limits → List ℕ → List ℕ → Standing
-packed_standing L s t = stands_as (packed_compare L s t) (held (read_stamp L s).stamp).update (held (read_stamp L t).stamp).update
+unfoldable pub packed_standing : Limits → List ℕ → List ℕ → Result Standing Refusal
+packed_standing L s t = both_read L s t (standing L)
 
 -- a fork's answer, and what both buffers hold afterwards
 pub record WroteTwo : Type 0 where
-  pub answer : Written
+  pub answer : Result ℕ Refusal
   pub zero : List ℕ
   pub one : List ℕ
 
 -- "If either buffer is too short, neither is written"
-unfoldable pub wrote_two : Answer → List ℕ → List ℕ → List ℕ → List ℕ → WroteTwo
-wrote_two Done p q x y =
-    cond (ltb (length x) (length p) || ltb (length y) (length q))
-    (record { answer = NotWritten Short; zero = x; one = y })
-    (record { answer = Bytes (length p); zero = over p x; one = over q y })
-wrote_two (Refused r) p q x y = record { answer = NotWritten r; zero = x; one = y }
+unfoldable pub wrote_two : Result (List ℕ × List ℕ) Refusal → List ℕ → List ℕ → WroteTwo
+wrote_two (Ok p) x y =
+    cond (ltb (length x) (length p.0) || ltb (length y) (length p.1))
+    (record { answer = Err Short; zero = x; one = y })
+    (record { answer = Ok (length p.0); zero = over p.0 x; one = over p.1 y })
+wrote_two (Err r) x y = record { answer = Err r; zero = x; one = y }
+
+-- the bytes of both branches
+abbrev pub branches_in : Limits → Result Branches Refusal → Result (List ℕ × List ℕ) Refusal
+branches_in L g = and_then g (λ f. Ok (packed L (held f.zero), packed L (held f.one)))
 
 unfoldable pub packed_fork : Limits → List ℕ → List ℕ → List ℕ → WroteTwo
-packed_fork L s x y =
-    let g : Given = read_stamp L s in
-    let f : Forked = forked L g.stamp in
-    wrote_two (and_then g.answer f.answer) (packed L (held f.zero)) (packed L (held f.one)) x y
+packed_fork L s x y = wrote_two (branches_in L (and_then (read_stamp L s) (forked L))) x y
 
 -- ---- which to keep
 
@@ -188,18 +177,18 @@ pub data Side : Type 0 where
 
 -- "the first if equal or newer, the second if the first is obsolete, an empty part of the first on conflict or refusal"
 abbrev pub side_of : Compared → Side
-side_of (Is Verdict.Equal) = the_first
-side_of (Is Verdict.Obsolete) = the_second
-side_of (Is Verdict.Newer) = the_first
-side_of (Is Verdict.Conflict) = neither
-side_of (NotCompared r) = neither
+side_of (Ok Verdict.Equal) = the_first
+side_of (Ok Verdict.Obsolete) = the_second
+side_of (Ok Verdict.Newer) = the_first
+side_of (Ok Verdict.Conflict) = neither
+side_of (Err r) = neither
 
 -- ---- the numbers that C gets: "the others give the bytes written; a refusal gives 1,000 plus its number"
 
-abbrev pub written_number : Written → ℕ
-written_number (Bytes n) = n
-written_number (NotWritten r) = 1000 + number r
+abbrev pub written_number : Result ℕ Refusal → ℕ
+written_number (Ok n) = n
+written_number (Err r) = 1000 + number r
 
 abbrev pub compared_number : Compared → ℕ
-compared_number (Is v) = verdict_number v
-compared_number (NotCompared r) = 1000 + number r
+compared_number (Ok v) = verdict_number v
+compared_number (Err r) = 1000 + number r

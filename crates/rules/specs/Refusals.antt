@@ -1,5 +1,5 @@
 -- "Refusal numbers": the numbers, what 6 to 9 ask of stamps, and the order of a call's refusals.
-use Rattle.std.specs.Prelude.{Bool, cond, not, ◌&&◌, ◌||◌, List, [], ◌∷◌, ℕ, eqb, ltb, length}
+use Rattle.std.specs.Prelude.{⊤, Bool, cond, not, ◌&&◌, ◌||◌, List, [], ◌∷◌, ℕ, eqb, ltb, length, Result, Ok, Err}
 use Rattle.rules.specs.Limits.{Limits}
 use Rattle.rules.specs.Names.{Name, any, covered}
 use Rattle.rules.specs.Stamps.{Stamp}
@@ -7,8 +7,6 @@ use Rattle.rules.specs.declared.Refusal.{Refusal}
 use Rattle.rules.specs.declared.Refusal.TheVariants.{Malformed, Unlawful, NoSlot, OneSlot, Full, Long, Many, Overlap, Unseen, Short, Unread, Unfit, Ended}
 use Rattle.rules.specs.declared.Verdict.{Verdict}
 use Rattle.rules.specs.declared.Verdict.TheVariants.{Equal, Obsolete, Newer, Conflict}
-use Rattle.rules.specs.declared.Answer.{Answer}
-use Rattle.rules.specs.declared.Answer.TheVariants.{Done, Refused}
 
 -- the table's numbers
 abbrev pub number : Refusal → ℕ
@@ -33,15 +31,19 @@ verdict_number Obsolete = 1
 verdict_number Newer = 2
 verdict_number Conflict = 3
 
+-- whether a call is accepted
+abbrev pub Answer : Type 0
+Answer = Result ⊤ Refusal
+
 -- the first test that holds refuses; where none does the call is accepted
 unfoldable pub first : List (Bool × Refusal) → Answer
-first [] = Done
-first (t ∷ ts) = cond t.0 (Refused t.1) (first ts)
+first [] = Ok tt
+first (t ∷ ts) = cond t.0 (Err t.1) (first ts)
 
 -- what is refused before is refused
-abbrev pub and_then : Answer → Answer → Answer
-and_then Done b = b
-and_then (Refused r) b = Refused r
+abbrev pub and_then : {A B : Type 0} → Result A Refusal → (A → Result B Refusal) → Result B Refusal
+and_then (Ok x) f = f x
+and_then (Err r) f = Err r
 
 -- 6: "an id string has 24 digits"
 unfoldable pub long : Limits → Stamp → Bool

@@ -1,23 +1,19 @@
 -- "The table of copies": a run of records, and what each call answers and leaves in every record.
 -- "Order on tables: 12 for size, 3 first slot, 3 second, 4, 12 first stamp, 12 second, 8, 9, 5, 6, 7."
-use Rattle.std.specs.Prelude.{Bool, true, false, cond, not, ◌&&◌, ◌||◌, List, [], ◌∷◌, ℕ, zero, suc, ◌+◌, eqb, leb, ltb, length, get_or, set, replicate}
+use Rattle.std.specs.Prelude.{Bool, true, false, cond, not, ◌&&◌, ◌||◌, List, [], ◌∷◌, ℕ, zero, suc, ◌+◌, eqb, leb, ltb, length, get_or, set, replicate, Result, Ok, Err}
 use Rattle.rules.specs.Limits.{Limits, records}
 use Rattle.rules.specs.Stamps.{Stamp, start, update, fork, join, compare}
 use Rattle.rules.specs.Stored.{stored, held, unlawful, blank, absent}
-use Rattle.rules.specs.Refusals.{number, first, long, many, overlap, unseen}
-use Rattle.rules.specs.Values.{told, stands_as}
+use Rattle.rules.specs.Refusals.{Answer, number, first, long, many, overlap, unseen}
+use Rattle.rules.specs.Values.{Compared, told, stands_as}
+use Rattle.rules.specs.Packed.{written_number}
 use Rattle.rules.specs.declared.Record.{Record}
 use Rattle.rules.specs.declared.Verdict.{Verdict}
 use Rattle.rules.specs.declared.Refusal.{Refusal}
 use Rattle.rules.specs.declared.Refusal.TheVariants.{NoSlot, OneSlot, Full, Long, Many, Overlap, Unseen, Unfit}
-use Rattle.rules.specs.declared.Answer.{Answer}
-use Rattle.rules.specs.declared.Answer.TheVariants.{Done, Refused}
-use Rattle.rules.specs.declared.Compared.{Compared}
 use Rattle.rules.specs.declared.Standing.{Standing}
-use Rattle.rules.specs.declared.Slot.{Slot}
-use Rattle.rules.specs.declared.Slot.TheVariants.{At, Refused as NoSlotGiven}
 use Rattle.rules.specs.declared.Spared.{Spared}
-use Rattle.rules.specs.declared.Spared.TheVariants.{Spare, Kept, Refused as NotTold}
+use Rattle.rules.specs.declared.Spared.TheVariants.{Spare, Kept}
 
 abbrev pub Table : Type 0
 Table = List Record
@@ -53,6 +49,10 @@ lowest L (r ∷ t) = cond (absent L r) zero (suc (lowest L t))
 unfoldable pub full : Limits → Table → Bool
 full L t = eqb (lowest L t) (length t)
 
+-- the slot that a call names: its own, or for a fork the new one
+abbrev pub Slot : Type 0
+Slot = Result ℕ Refusal
+
 -- a call's answer, and what every record holds afterwards
 pub record Step : Type 0 where
   pub answer : Slot
@@ -60,8 +60,8 @@ pub record Step : Type 0 where
 
 -- "every record and byte stays" on refusal
 abbrev pub stepped : Answer → ℕ → Table → Table → Step
-stepped Done a old new = record { answer = At a; table = new }
-stepped (Refused r) a old new = record { answer = NoSlotGiven r; table = old }
+stepped (Ok x) a old new = record { answer = Ok a; table = new }
+stepped (Err r) a old new = record { answer = Err r; table = old }
 
 -- "A fresh table has [e|e] in slot 0 and nothing else"
 unfoldable pub fresh_table : Limits → ℕ → Table
@@ -120,40 +120,46 @@ compare_at L t a b =
     ∷ []))
     (compare (stamp_at t a) (stamp_at t b))
 
-unfoldable pub standing_at : Limits → Table → ℕ → ℕ → Standing
+unfoldable pub standing_at : Limits → Table → ℕ → ℕ → Result Standing Refusal
 standing_at L t a b = stands_as (compare_at L t a b) (stamp_at t a).update (stamp_at t b).update
 
+-- whether a copy may go
+abbrev pub Sparing : Type 0
+Sparing = Result Spared Refusal
+
 -- one pair: "the first obsolete verdict gives yes, the first refusal is the result"
-abbrev pub or_next : Answer → Verdict → Spared → Spared
-or_next Done Verdict.Obsolete next = Spare
-or_next Done Verdict.Equal next = next
-or_next Done Verdict.Newer next = next
-or_next Done Verdict.Conflict next = next
-or_next (Refused r) v next = NotTold r
+abbrev pub or_next : Answer → Verdict → Sparing → Sparing
+or_next (Ok x) Verdict.Obsolete next = Ok Spare
+or_next (Ok x) Verdict.Equal next = next
+or_next (Ok x) Verdict.Newer next = next
+or_next (Ok x) Verdict.Conflict next = next
+or_next (Err r) v next = Err r
 
 -- s, of slot a, against the records from slot b on: "in rising order, skipping a and absent ones"
-unfoldable pub spare_from : Limits → Stamp → ℕ → ℕ → Table → Spared
-spare_from L s a b [] = Kept
+unfoldable pub spare_from : Limits → Stamp → ℕ → ℕ → Table → Sparing
+spare_from L s a b [] = Ok Kept
 spare_from L s a b (r ∷ t) =
-    let next : Spared = spare_from L s a (suc b) t in
+    let next : Sparing = spare_from L s a (suc b) t in
     cond (eqb a b || absent L r) next
     (or_next (first ((unlawful L r, Unfit) ∷ (overlap s (held r), Overlap) ∷ (unseen s (held r), Unseen) ∷ [])) (compare s (held r)) next)
 
-abbrev pub spared_after : Answer → Spared → Spared
-spared_after Done s = s
-spared_after (Refused r) s = NotTold r
+abbrev pub spared_after : Answer → Sparing → Sparing
+spared_after (Ok x) s = s
+spared_after (Err r) s = Err r
 
 -- "Slot a is spare when it is obsolete relative to some other present slot"
-unfoldable pub spare_at : Limits → Table → ℕ → Spared
+unfoldable pub spare_at : Limits → Table → ℕ → Sparing
 spare_at L t a = spared_after (first (one_slot L t a [])) (spare_from L (stamp_at t a) a 0 t)
 
 -- ---- the answers as numbers: the slot, 0 kept and 1 spare; a refusal is 1,000 plus its number
 
 abbrev pub slot_number : Slot → ℕ
-slot_number (At a) = a
-slot_number (NoSlotGiven r) = 1000 + number r
+slot_number = written_number
 
-abbrev pub spared_number : Spared → ℕ
-spared_number Kept = 0
-spared_number Spare = 1
-spared_number (NotTold r) = 1000 + number r
+abbrev pub spare_number : Spared → ℕ
+spare_number Kept = 0
+spare_number Spare = 1
+
+abbrev pub spared_number : Sparing → ℕ
+spared_number (Ok s) = spare_number s
+spared_number (Err r) = 1000 + number r

@@ -1,21 +1,17 @@
 -- "The trace tool": what a line means, what it prints, and what a whole input prints.
-use Rattle.std.specs.Prelude.{Bool, cond, not, ◌&&◌, List, [], ◌∷◌, ◌++◌, ℕ, ◌+◌, ◌*◌, ◌-◌, ◌/◌, ◌%◌, eqb, leb, ltb}
+use Rattle.std.specs.Prelude.{Bool, cond, not, ◌&&◌, List, [], ◌∷◌, ◌++◌, ℕ, ◌+◌, ◌*◌, ◌-◌, ◌/◌, ◌%◌, eqb, leb, ltb, Ok, Err}
 use Rattle.std.proofs.Math.Option.{Option, none, some}
 use Rattle.rules.specs.Limits.{Limits, records}
 use Rattle.rules.specs.Strings.{Str, digit}
 use Rattle.rules.specs.Names.{lacked}
 use Rattle.rules.specs.Refusals.{number}
-use Rattle.rules.specs.Tables.{Table, stamp_at, fresh_table, update_at, fork_at, join_at, compare_at, spare_at}
+use Rattle.rules.specs.Values.{Compared}
+use Rattle.rules.specs.Tables.{Table, Slot, Sparing, stamp_at, fresh_table, update_at, fork_at, join_at, compare_at, spare_at}
 use Rattle.rules.specs.declared.Verdict.{Verdict}
 use Rattle.rules.specs.declared.Verdict.TheVariants.{Equal, Obsolete, Newer, Conflict}
 use Rattle.rules.specs.declared.Refusal.{Refusal}
 use Rattle.rules.specs.declared.Refusal.TheVariants.{Unread}
-use Rattle.rules.specs.declared.Compared.{Compared}
-use Rattle.rules.specs.declared.Compared.TheVariants.{Is, Refused as NotCompared}
-use Rattle.rules.specs.declared.Slot.{Slot}
-use Rattle.rules.specs.declared.Slot.TheVariants.{At, Refused}
-use Rattle.rules.specs.declared.Spared.{Spared}
-use Rattle.rules.specs.declared.Spared.TheVariants.{Spare, Kept, Refused as NotTold}
+use Rattle.rules.specs.declared.Spared.TheVariants.{Spare, Kept}
 
 abbrev pub Text : Type 0
 Text = List ℕ
@@ -125,18 +121,18 @@ verdict_text Newer x y = 110 ∷ 101 ∷ 119 ∷ 101 ∷ 114 ∷ 10 ∷ []
 verdict_text Conflict x y = conflict_text x y
 
 abbrev pub slot_text : Slot → Text
-slot_text (At a) = ok_text a
-slot_text (Refused r) = refused_text r
+slot_text (Ok a) = ok_text a
+slot_text (Err r) = refused_text r
 
 abbrev pub compared_text : Compared → Str → Str → Text
-compared_text (Is v) x y = verdict_text v x y
-compared_text (NotCompared r) x y = refused_text r
+compared_text (Ok v) x y = verdict_text v x y
+compared_text (Err r) x y = refused_text r
 
 -- the words spare, kept
-abbrev pub spared_text : Spared → Text
-spared_text Spare = 115 ∷ 112 ∷ 97 ∷ 114 ∷ 101 ∷ 10 ∷ []
-spared_text Kept = 107 ∷ 101 ∷ 112 ∷ 116 ∷ 10 ∷ []
-spared_text (NotTold r) = refused_text r
+abbrev pub spared_text : Sparing → Text
+spared_text (Ok Spare) = 115 ∷ 112 ∷ 97 ∷ 114 ∷ 101 ∷ 10 ∷ []
+spared_text (Ok Kept) = 107 ∷ 101 ∷ 112 ∷ 116 ∷ 10 ∷ []
+spared_text (Err r) = refused_text r
 
 -- ---- a line at a table: what it prints and what it leaves
 

@@ -1,2 +1,2 @@
-pub mod Few
+pub mod Turns
 pub mod Unique

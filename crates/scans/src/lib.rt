@@ -1,124 +1,49 @@
-// Passes over the table, slot by slot: what a look at one record makes of the search for an absent slot, and for a copy that makes
-// another obsolete. A look is total: it takes any numbers and records. Answers are numbers, as spared_number of the rules says.
-#![tactic(auto)]
+// Questions that go over a run of records, each by one pass from the first slot on: which is the lowest absent, and whether a copy is
+// obsolete relative to that of another slot. Records are looked at where they lie.
+#![tactic(auto, using(crate::proofs::Turns::turns), unfolding(crate::specs::Scans::obsolete_beside, rules::specs::Refusals::first, rules::specs::Stored::unlawful))]
 
-ghost use Rattle.std.specs.Prelude.{◌≡◌, ◌≤◌};
-ghost use Rattle.rules.specs.Values.{compared_of};
-ghost use Rattle.scans.specs.Scans.{span_of, absent_or_next, weighed, weigh_start, onward_to, found_or, spare_code, meet_code};
+ghost use Rattle.std.specs.Prelude.{◌≡◌, [], position};
+ghost use Rattle.rules.specs.Limits.{narrow};
+ghost use Rattle.rules.specs.Refusals.{first};
+ghost use Rattle.rules.specs.Stored.{absent, held};
+ghost use Rattle.rules.specs.Tables.{spare_from, spared_after};
+ghost use Rattle.slots.specs.Rules.{slot_tests};
+ghost use Rattle.scans.specs.Scans.{obsolete_beside};
 
-use answers::refusal_code;
-use names::counted;
-use rules::{Record, Standing};
-use slots::{RECORDS, UNFIT, is_absent, slot_code};
-use stamps::is_lawful_in;
+use names::lent;
+use rules::{Record, Refusal, Spared, Standing};
+use slots::{asked, is_absent};
 
-// Where a pass over the table stands is one number: the slot that comes next, or, past every slot, this and what was found.
-const FOUND: usize = 1000;
-
-// A search for a copy that makes slot `at` obsolete, whose record is `mine`: where the pass over the table begins.
-#[derive(Clone, Copy)]
-pub struct Scan {
-    pub from: usize,
-    pub at: usize,
-    pub mine: Record,
+// The lowest absent slot.
+pub fn lowest_absent(t: &[Record]) -> Option<usize>
+    ensures { result ≡ position (absent narrow) t.now }
+{
+    t.iter().position(is_absent)
 }
 
-// How many slots of n there are to go over: all, or none where the table is too large.
-pub fn span(n: usize) -> usize
-    ensures { result ≡ span_of n }
+// Whether m, which is the record of slot a, is obsolete relative to the copy in some other slot.
+pub fn spare_in(t: &[Record], a: usize, m: &Record) -> Result<Spared, Refusal>
+    ensures { result ≡ spared_after (first (slot_tests m.now [])) (spare_from narrow (held m.now) a 0 t.now) }
 {
-    if RECORDS < n {
-        return 0;
+    asked(m)?;
+    for (k, r) in t.iter().enumerate() {
+        if k != a && is_obsolete(m, r)? {
+            return Ok(Spared::Spare);
+        }
     }
-    n
+    Ok(Spared::Kept)
 }
 
-// Whether slot k is absent: the next slot, or FOUND and k.
-pub fn absent_or_next(k: usize, r: Record) -> usize
-    ensures { result ≡ absent_or_next k r }
+// Whether m, which is lawful, is obsolete relative to r.
+fn is_obsolete(m: &Record, r: &Record) -> Result<bool, Refusal>
+    ensures { result ≡ obsolete_beside m.now r.now }
 {
-    if RECORDS <= k {
-        return k;
-    }
     if is_absent(r) {
-        return FOUND + k;
+        return Ok(false);
     }
-    k + 1
-}
-
-// The search that begins at the first slot, or is answered where slot a's record r is refused.
-pub fn weigh_start(a: usize, r: Record) -> Scan
-    ensures { result ≡ weigh_start a r }
-{
-    let from = onward(0, slot_code(r));
-    Scan {
-        from: from,
-        at: a,
-        mine: r,
-    }
-}
-
-// Slot k's record beside that of the search: the next slot, or FOUND and the answer. The slot itself and absent ones are passed over.
-pub fn weigh(s: Scan, k: usize, r: Record, absent: bool) -> usize
-    ensures { result ≡ weighed s k r absent }
-{
-    let at = s.at;
-    if RECORDS <= k {
-        return k;
-    }
-    if at == k {
-        return k + 1;
-    }
-    if absent {
-        return k + 1;
-    }
-    onward(k + 1, meet_code(s.mine, r))
-}
-
-// What a pass that ended at k has found, or d.
-pub fn found_or(k: usize, d: usize) -> usize
-    ensures { result ≡ found_or k d }
-{
-    if k < FOUND {
-        return d;
-    }
-    k - FOUND
-}
-
-// Where a pass goes on: at slot k while there is no answer, 0.
-fn onward(k: usize, answer: u64) -> usize
-    requires { answer ≤ 2000 }
-    ensures { result ≡ onward_to k answer }
-{
-    if answer == 0 {
-        return k;
-    }
-    FOUND + answer as usize
-}
-
-// What m, which is lawful, is told beside r: 1 where it may go, 0 where it is kept, or the refusal.
-fn meet_code(m: Record, r: Record) -> u64
-    ensures { result ≡ meet_code m r }
-{
-    if is_lawful_in(&r.update.words, r.update.count, &r.id.words, r.id.count) {
-        let c = walks::compare(
-            counted(&m.update.words, m.update.count),
-            counted(&m.id.words, m.id.count),
-            counted(&r.update.words, r.update.count),
-            counted(&r.id.words, r.id.count),
-        );
-        return spare_code(c);
-    }
-    UNFIT
-}
-
-// 1 where the comparison lets the first go, 0 where it keeps it.
-fn spare_code(s: Standing) -> u64
-    ensures { result ≡ spare_code (compared_of s) }
-{
-    match s {
-        Standing::Obsolete(_) => 1,
-        Standing::Refused(r) => refusal_code(r),
-        _ => 0,
+    asked(r)?;
+    match walks::compare(lent(m), lent(r))? {
+        Standing::Obsolete(_) => Ok(true),
+        _ => Ok(false),
     }
 }

@@ -1,3 +1,2 @@
 -- What the rules by value answer, in the shape of the code.
-pub mod Gates
 pub mod Rules

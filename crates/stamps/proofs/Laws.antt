@@ -1,20 +1,19 @@
 -- A stored record in the parts that the code asks for, one after the other; what the walks tell of the words that a stored name counts; and what
 -- two stamps are refused for, test after test. Assumes nothing.
 use Rattle.laws.proofs.Library.{◌≡◌, refl, sym, ap, ◌∙◌, Bool, true, false, cond, not, ◌&&◌, List, [], ◌∷◌, ◌++◌, ℕ, ◌≤◌, arith, eqb, length, take}
-use Rattle.laws.proofs.Library.{length-take-le}
+use Rattle.laws.proofs.Library.{length-take-le, Result, Ok, Err}
+use Rattle.std.specs.Prelude.{⊤}
 use Rattle.rules.specs.Limits.{Limits, narrow}
 use Rattle.rules.specs.Names.{any, rising, is_name, below}
 use Rattle.rules.specs.Stamps.{Stamp, pair, is_none, lawful, append, update, fork, join}
 use Rattle.rules.specs.Stored.{words_of, stored, strs_in, held, same_words, same_record, is_stored_name, is_stored, unlawful}
-use Rattle.rules.specs.Refusals.{first, and_then, many, long as too_long}
+use Rattle.rules.specs.Refusals.{Answer, first, and_then, many, long as too_long}
 use Rattle.rules.specs.Values.{given, updated, forked, joined, meeting}
 use Rattle.rules.specs.declared.Words.{Words}
 use Rattle.rules.specs.declared.Record.{Record}
 use Rattle.rules.specs.declared.Refusal.{Refusal}
 use Rattle.rules.specs.declared.Refusal.TheVariants.{Unlawful, Many}
-use Rattle.rules.specs.declared.Answer.{Answer}
-use Rattle.rules.specs.declared.Answer.TheVariants.{Done, Refused}
-use Rattle.laws.proofs.Tests.{and_left, and_right}
+use Rattle.laws.proofs.Tests.{not-false, and_left, and_right}
 use Rattle.laws.proofs.Lawful.{Named, name_parts}
 use Rattle.laws.proofs.Stored.{stored_is, stored_name, stored_name_is}
 use Rattle.walks.specs.Walks.{strs, below_walk, has_twins, is_long}
@@ -56,18 +55,18 @@ module _ (L : Limits) (r : Record) where
       (and_left (is_stored_name L r.update) (is_stored_name L r.id) both, and_right (is_stored_name L r.update) (is_stored_name L r.id) both)
 
 -- what an edit makes of a stored record: the id twice
-pub updated_is : (L : Limits) (r : Record) → is_stored L r ≡ true → record { answer = Done; stamp = record { update = r.id; id = r.id } } ≡ updated L r
+pub updated_is : (L : Limits) (r : Record) → is_stored L r ≡ true → Ok (record { update = r.id; id = r.id }) ≡ updated L r
 unfolding updated first unlawful update held stored
-updated_is L r e = rw e (ap (λ (x : Record). record { answer = Done; stamp = record { update = x.id; id = x.id } }) (stored_is L r e))
+updated_is L r e = rw e (ap (λ (x : Record). Ok (record { update = x.id; id = x.id })) (stored_is L r e))
 
 -- what a fork makes of a stored record whose id can grow: the update twice, beside the id grown by 0 and by 1
 pub forked_is : (L : Limits) (r : Record) (i0 i1 : Words) → is_stored L r ≡ true → any (λ t. eqb (length t) L.digits) (strs_in r.id) ≡ false
     → i0 ≡ words_of L (append false (strs_in r.id)) → i1 ≡ words_of L (append true (strs_in r.id))
-    → record { answer = Done; zero = record { update = r.update; id = i0 }; one = record { update = r.update; id = i1 } } ≡ forked L r
+    → Ok (record { zero = record { update = r.update; id = i0 }; one = record { update = r.update; id = i1 } }) ≡ forked L r
 unfolding forked first unlawful too_long held fork stored
 forked_is L r i0 i1 e l p q =
     let u = ap (λ (x : Record). x.update) (stored_is L r e) in
-    rw (e, l) (λ i. record { answer = Done; zero = record { update = u i; id = p i }; one = record { update = u i; id = q i } })
+    rw (e, l) (λ i. Ok (record { zero = record { update = u i; id = p i }; one = record { update = u i; id = q i } }))
 
 -- ---- a stored name
 
@@ -125,37 +124,45 @@ unfolding strs_in
 lent_below m n h k =
     below_walk_lem narrow.digits (omega arith) (counted m) (counted n) (stored_words narrow m h) (stored_words narrow n k) (lent_rising m h) (lent_rising n k)
 
--- ---- two stamps
-
--- where one is not lawful, that is what they are refused for
-module _ (L : Limits) (a b : Record) where
-  pub first_unlawful : is_stored L a ≡ false → Refused Unlawful ≡ first (meeting L a b [])
-  unfolding first unlawful
-  first_unlawful p = rw p
-
-  pub second_unlawful : is_stored L a ≡ true → is_stored L b ≡ false → Refused Unlawful ≡ first (meeting L a b [])
-  unfolding first unlawful
-  second_unlawful p q = rw (p, q)
-
 -- ---- tests one after the other
 
-pub refusal_not_done : {r : Refusal} → Refused r ≡ Done → ⊥
-refusal_not_done e = let z : ◌≡◌ {A = ℕ} 0 1 = cc in omega arith
+-- a refusal is no result
+pub refusal_not_done : {A : Type 0} {r : Refusal} {x : A} → ◌≡◌ {A = Result A Refusal} (Err r) (Ok x) → ⊥
+refusal_not_done e = cc
 
 -- tests, and then more tests
-pub first_then : (ts us : List (Bool × Refusal)) → first (ts ++ us) ≡ and_then (first ts) (first us)
+pub first_then : (ts us : List (Bool × Refusal)) → first (ts ++ us) ≡ and_then (first ts) (λ x. first us)
 unfolding first
 first_then [] us = refl
 first_then (t ∷ ts) us = by t.0 (first_then ts us)
   where
-    by : (b : Bool) → first (ts ++ us) ≡ and_then (first ts) (first us)
-        → cond b (Refused t.1) (first (ts ++ us)) ≡ and_then (cond b (Refused t.1) (first ts)) (first us)
+    by : (b : Bool) → first (ts ++ us) ≡ and_then (first ts) (λ x. first us)
+        → cond b (Err t.1) (first (ts ++ us)) ≡ and_then (cond b (Err t.1) (first ts)) (λ x. first us)
     by true h = refl
     by false h = h
 
+-- ---- two stamps
+
+module _ (L : Limits) where
+  -- what a record is refused for by itself
+  abbrev pub alone : Record → Answer
+  alone r = first ((unlawful L r, Unlawful) ∷ [])
+
+  pub alone_stored : (r : Record) {x : ⊤} → alone r ≡ Ok x → is_stored L r ≡ true
+  unfolding first unlawful
+  alone_stored r e = not-false (λ h. refusal_not_done (rw h at e))
+
+  -- where one is refused by itself, that is what the two are
+  pub first_alone : (a b : Record) (more : List (Bool × Refusal)) {r : Refusal} → alone a ≡ Err r → first (meeting L a b more) ≡ Err r
+  first_alone a b more e = first_then ((unlawful L a, Unlawful) ∷ []) _ ∙ rw e
+
+  pub second_alone : (a b : Record) (more : List (Bool × Refusal)) {x : ⊤} {r : Refusal} → alone a ≡ Ok x → alone b ≡ Err r → first (meeting L a b more) ≡ Err r
+  second_alone a b more e f =
+      first_then ((unlawful L a, Unlawful) ∷ []) _ ∙ rw e (first_then ((unlawful L b, Unlawful) ∷ []) _ ∙ rw f)
+
 -- of a join, what two that meet are refused for comes first
 pub joined_then : (L : Limits) (a b : Record)
-    → (let j : Stamp = join (held a) (held b) in joined L a b ≡ given L (and_then (first (meeting L a b [])) (first ((many L j, Many) ∷ []))) j)
+    → (let j : Stamp = join (held a) (held b) in joined L a b ≡ given L (and_then (first (meeting L a b [])) (λ x. first ((many L j, Many) ∷ []))) j)
 unfolding joined
 joined_then L a b =
     let j : Stamp = join (held a) (held b) in

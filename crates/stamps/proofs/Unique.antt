@@ -5,6 +5,7 @@ use Rattle.laws.proofs.Contracts.{agree, both_say}
 use Rattle.stamps.specs.contracts.blank
 use Rattle.stamps.specs.contracts.is_lawful
 use Rattle.stamps.specs.contracts.is_lawful_in
+use Rattle.stamps.specs.contracts.lawful
 use Rattle.stamps.specs.contracts.update
 use Rattle.stamps.specs.contracts.fork
 use Rattle.stamps.specs.contracts.meet
@@ -30,3 +31,6 @@ compare_one_answer M 𝓤 𝓛 mem run = (refl, λ κs a g h r s v w. both_say �
 
 pub is_lawful_in_one_answer : OneAnswer is_lawful_in.ended (λ M 𝓤 𝓛. is_lawful_in.clauses 𝓛) (λ M 𝓤 𝓛. is_lawful_in.spec 𝓛)
 is_lawful_in_one_answer M 𝓤 𝓛 mem run = (refl, λ κs a g h r s v w. both_say 𝓤 (λ e f. (agree e f, refl)))
+
+pub lawful_one_answer : OneAnswer lawful.ended (λ M 𝓤 𝓛. lawful.clauses 𝓛) (λ M 𝓤 𝓛. lawful.spec 𝓛)
+lawful_one_answer M 𝓤 𝓛 mem run = (refl, λ κs a g h r s v w. both_say 𝓤 (λ e f. (agree e f, refl)))

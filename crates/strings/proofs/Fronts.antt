@@ -3,7 +3,7 @@
 use Rattle.laws.proofs.Library.{◌≡◌, refl, sym, ap, ◌∙◌, Bool, true, false, not, ◌&&◌, [], ◌∷◌, ℕ, suc, ◌%◌, ◌≤◌, ◌<◌, arith, le_of_lt, leb-true}
 use Rattle.laws.proofs.Library.{leb-false, ltb-true, le-leb, lt-ltb, leb, ltb}
 use Rattle.rules.specs.Strings.{Str, prefix, less, common, field, str_of, is_word}
-use Rattle.laws.proofs.Tests.{no, clash, not-true, and_both}
+use Rattle.laws.proofs.Tests.{clash, not-true, and_both}
 use Rattle.laws.proofs.Rising.{less_apart}
 use Rattle.laws.proofs.Words.{prefix_words}
 use Rattle.strings.specs.Words.{begins}

@@ -4,6 +4,7 @@ use Rattle.rules.specs.OneAnswer.{OneAnswer}
 use Rattle.laws.proofs.Contracts.{agree, both_say}
 use Rattle.strings.specs.contracts.shared
 use Rattle.strings.specs.contracts.begins
+use Rattle.strings.specs.contracts.precedes
 use Rattle.strings.specs.contracts.are_siblings
 use Rattle.strings.specs.contracts.is_word
 
@@ -18,3 +19,6 @@ are_siblings_one_answer M 𝓤 𝓛 mem run = (refl, λ κs a g h r s v w. both_
 
 pub is_word_one_answer : OneAnswer is_word.ended (λ M 𝓤 𝓛. is_word.clauses 𝓛) (λ M 𝓤 𝓛. is_word.spec 𝓛)
 is_word_one_answer M 𝓤 𝓛 mem run = (refl, λ κs a g h r s v w. both_say 𝓤 (λ e f. (agree e f, refl)))
+
+pub precedes_one_answer : OneAnswer precedes.ended (λ M 𝓤 𝓛. precedes.clauses 𝓛) (λ M 𝓤 𝓛. precedes.spec 𝓛)
+precedes_one_answer M 𝓤 𝓛 mem run = (refl, λ κs a g h r s v w. both_say 𝓤 (λ e f. (agree e f, refl)))

@@ -4,7 +4,7 @@
 ghost use Rattle.std.specs.Prelude.{◌≡◌};
 ghost use Rattle.rules.specs.Limits.{narrow};
 ghost use Rattle.rules.specs.Strings.{common, field, siblings, str_of, is_word};
-ghost use Rattle.strings.specs.Words.{begins};
+ghost use Rattle.strings.specs.Words.{begins, precedes};
 
 // A string has at most so many digits.
 pub const DIGITS: u64 = 24;
@@ -13,7 +13,7 @@ pub const DIGITS: u64 = 24;
 pub fn shared(a: u64, b: u64) -> u32
     ensures { result ≡ common (field 64 a) (field 64 b) }
 {
-    u64::leading_zeros(a ^ b)
+    (a ^ b).leading_zeros()
 }
 
 // Whether t begins with the digits of s: where the words stand in order, s at or before t, its string is then a prefix of that of t.
@@ -24,16 +24,20 @@ pub fn begins(s: u64, t: u64) -> bool
     digits <= shared(s, t)
 }
 
+// Whether s is the lower word, and t does not begin with its digits: of the words of strings, whether s comes before t and is no prefix of it.
+pub fn precedes(s: u64, t: u64) -> bool
+    ensures { result ≡ precedes s t }
+{
+    s < t && !begins(s, t)
+}
+
 // Whether the two strings differ in the last digit only.
 pub fn are_siblings(a: u64, b: u64) -> bool
     ensures { result ≡ siblings (str_of a) (str_of b) }
 {
     let m = (a % 64) as u32;
     let n = (b % 64) as u32;
-    if m == n {
-        return shared(a, b) + 1 == m;
-    }
-    false
+    m == n && shared(a, b) + 1 == m
 }
 
 // Whether w is the word of a string within the limit: nothing stands behind the digits but the length.
@@ -41,8 +45,5 @@ pub fn is_word(w: u64) -> bool
     ensures { result ≡ is_word narrow.digits w }
 {
     let length = w % 64;
-    if length <= DIGITS {
-        return (w - length) << length == 0;
-    }
-    false
+    length <= DIGITS && (w - length) << length == 0
 }

@@ -2,14 +2,24 @@
 // are the loops over the pieces and over their text.
 #![tactic(auto)]
 
-ghost use Rattle.std.specs.Prelude.{◌≡◌, true, false, ◌*◌, ◌≤◌, ◌<◌, length};
+ghost use Rattle.std.specs.Prelude.{◌≡◌, ◌≤◌, ◌<◌, length, max, MatchResult};
 ghost use Rattle.printing.specs.Answers.{longest};
 
-use inputs::Fed;
+use inputs::{Fed, Trace};
+use lines::{Command, UNREADABLE};
 use std::io::{Eprint, Input, Print, Read, Write};
 use std::{env, io};
 
-// A piece is at most 4,096 bytes, so there are at most as many commands, of three numbers. Their text is written as often as `out` is full.
+// Why the tool stops before the end of its input.
+#[derive(Drop)]
+enum Stop {
+    // more bytes than a trace takes; no input has so many
+    TooLong,
+    Read(io::Error),
+    Write(io::Error),
+}
+
+// A piece is at most 4,096 bytes, so there are at most as many commands. Their text is written as often as `out` is full.
 fn main(rt: HostRuntime) {
     if is_mistyped(&rt) {
         let _ = rt.stderr().write_all(b"usage: trace < FILE\n");
@@ -19,82 +29,81 @@ fn main(rt: HostRuntime) {
         return;
     }
     let mut piece = [0u8; 4096];
-    let mut commands = [0u64; 12288];
+    let mut commands = [UNREADABLE; 4096];
     let mut out = [0u8; 16384];
-    answer(&rt, &mut piece, &mut commands, &mut out);
+    if let Err(stop) = answer(&rt, &mut piece, &mut commands, &mut out) {
+        tell(&rt, stop);
+    }
 }
 
 // Whether there is an argument: the tool takes none.
 fn is_mistyped<R: env::Env>(rt: &R) -> bool {
     let mut first = [0u8; 1];
-    match rt.arg(1, &mut first) {
-        Err(env::FillError::NotPresent) => false,
-        _ => true,
-    }
+    !matches!(rt.arg(1, &mut first), Err(env::FillError::NotPresent))
+}
+
+// Why the tool stops, on standard error. A reader that has gone away is not told.
+fn tell<R: Eprint>(rt: &R, stop: Stop) {
+    let _ = match stop {
+        Stop::TooLong => eprintln!(rt; "trace: too long"),
+        Stop::Read(e) => eprintln!(rt; "trace: read: {e}"),
+        Stop::Write(e) if e.kind() == io::ErrorKind::BrokenPipe => Ok(()),
+        Stop::Write(e) => eprintln!(rt; "trace: write: {e}"),
+    };
 }
 
 // Piece after piece to the end of the input, then a last line without newline. A read or a write that fails ends it.
 // A proved loop has to end: this one does because each turn carries on the trace that its piece left, which takes fewer bytes more.
-fn answer<R: Input + Print + Eprint>(rt: &R, piece: &mut [u8], commands: &mut [u64], out: &mut [u8])
+fn answer<R: Input + Print>(
+    rt: &R,
+    piece: &mut [u8],
+    commands: &mut [Command],
+    out: &mut [u8],
+) -> Result<(), Stop>
     requires piece_nonzero { 0 < length piece.old }
-    requires piece_in_bounds { 3 * length piece.old ≤ length commands.old }
+    requires piece_in_bounds { length piece.old ≤ length commands.old }
     requires longest_in_bounds { longest ≤ length out.old }
 {
     let mut input = rt.reader();
     let mut trace = inputs::start();
-    let mut got = input.read(piece);
-    while let Ok(n) = got {
+    loop {
+        let n = input.read(piece).map_err(Stop::Read)?;
+        let fed = take(&trace, &piece[..n], commands)?;
+        write(rt, &commands[..fed.count], out).map_err(Stop::Write)?;
         if n == 0 {
-            let last = inputs::close(trace, commands);
-            show(rt, commands, last, 1, out);
-            return;
-        }
-        let fed = inputs::feed(trace, &piece[..n], commands);
-        if !show(rt, commands, fed, n, out) {
-            return;
+            return Ok(());
         }
         trace = fed.trace;
-        got = input.read(piece);
-    }
-    if let Err(e) = got {
-        let _ = eprintln!(rt; "trace: read: {e}");
     }
 }
 
-// The answers of a piece of n bytes on standard output, or why not on standard error. Only a piece of more bytes than the trace still
-// takes is not taken, and no input is so long.
-fn show<R: Print + Eprint>(rt: &R, commands: &[u64], fed: Fed, n: usize, out: &mut [u8]) -> bool
-    requires budget_lt_n { fed.taken ≡ false → fed.trace.budget < n }
-    requires count_in_bounds { 3 * fed.count ≤ length commands.now }
-    requires longest_in_bounds { longest ≤ length out.old }
-    ensures { result ≡ true → fed.taken ≡ true }
+// What a piece leaves; an empty one is the end of the input. Only a piece of more bytes than the trace still takes is not taken, where the
+// end counts as one.
+fn take(trace: &Trace, piece: &[u8], commands: &mut [Command]) -> Result<Fed, Stop>
+    requires piece_in_bounds { length piece.now ≤ length commands.old }
+    requires commands_nonzero { 0 < length commands.old }
+    ensures { MatchResult result
+        (λ fed. (fed.count ≤ length commands.new) × (0 < length piece.now → fed.trace.budget < trace.now.budget))
+        (λ stop. (stop ≡ Stop.TooLong) × (trace.now.budget < max 1 (length piece.now))) }
 {
-    if !fed.taken {
-        let _ = eprintln!(rt; "trace: too long");
-        return false;
-    }
-    let end = 3 * fed.count;
-    match write(rt, &commands[..end], out) {
-        Ok(()) => true,
-        Err(e) => {
-            if e.kind() != io::ErrorKind::BrokenPipe {
-                let _ = eprintln!(rt; "trace: write: {e}");
-            }
-            false
-        }
-    }
+    let fed = if piece.is_empty() {
+        inputs::close(*trace, commands)
+    } else {
+        inputs::feed(*trace, piece, commands)
+    };
+    fed.ok_or(Stop::TooLong)
 }
 
 // The text of all answers on standard output, as much of it at a time as `out` takes.
-fn write<R: Print>(rt: &R, commands: &[u64], out: &mut [u8]) -> io::Result<()>
+#[tactic(auto, using(crate::proofs::Portions::some, crate::proofs::Portions::few, crate::proofs::Portions::short, crate::proofs::Portions::cut))]
+fn write<R: Print>(rt: &R, commands: &[Command], out: &mut [u8]) -> io::Result<()>
     requires { longest ≤ length out.old }
 {
-    let mut from = 0;
-    while from < commands.len() / 3 {
-        let p = printing::print(&commands[3 * from..], out);
-        let end = p.len;
-        io::writer(rt).write_all(&out[..end])?;
-        from += p.count;
+    let mut rest = commands;
+    while !rest.is_empty() {
+        let p = printing::print(rest, out);
+        io::writer(rt).write_all(&out[..p.len])?;
+        rest = &rest[p.count..];
     }
     Ok(())
 }

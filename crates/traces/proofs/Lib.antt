@@ -1,5 +1,4 @@
 -- The laws that the functions' proofs cite, and what stands in the buffer behind a run.
-pub mod Tied
 pub mod Turns
 pub mod Ran
 pub mod Unique

@@ -7,7 +7,7 @@ use Rattle.traces.specs.contracts.run
 use Rattle.traces.specs.contracts.fresh_in
 
 pub serve_one_answer : OneAnswer serve.ended (λ M 𝓤 𝓛. serve.clauses 𝓛) (λ M 𝓤 𝓛. serve.spec 𝓛)
-serve_one_answer M 𝓤 𝓛 mem run = (refl, λ κs a g h r s v w. both_say 𝓤 (λ e f. (agree e.0 f.0, λ i. (agree e.1 f.1 i, (tt, (tt, (tt, tt)))))))
+serve_one_answer M 𝓤 𝓛 mem run = (refl, λ κs a g h r s v w. both_say 𝓤 (λ e f. (agree e.0 f.0, λ i. (agree e.1 f.1 i, (tt, tt)))))
 
 pub run_one_answer : OneAnswer run.ended (λ M 𝓤 𝓛. run.clauses 𝓛) (λ M 𝓤 𝓛. run.spec 𝓛)
 run_one_answer M 𝓤 𝓛 mem run = (refl, λ κs a g h r s v w. both_say 𝓤 (λ e f. (agree e.0 f.0, λ i. (agree e.1 f.1 i, (tt, tt)))))

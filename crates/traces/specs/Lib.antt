@@ -1,3 +1,2 @@
--- What the contracts cite. Inner is for private functions only.
+-- What the contracts cite.
 pub mod Serves
-pub mod Inner

@@ -1,5 +1,7 @@
 -- The join of two lawful stamps in words: both names merged are the unions, and reduced and lifted they are the join's. A buffer for the strings of two
 -- names has room for all of it. Assumes nothing.
+use Rattle.std.specs.declared.option.Option.{Option}
+use Rattle.std.specs.declared.option.Option.TheVariants.{None, Some}
 use Rattle.laws.proofs.Library.{◌≡◌, refl, sym, ap, ap₂, ◌∙◌, subst, true, List, [], ◌∷◌, map, inl, inr, ℕ, ◌+◌, ◌*◌, ◌-◌, ◌≤◌, arith, le-leb, length, take}
 use Rattle.laws.proofs.Library.{replicate, length-map, length-replicate, take_at}
 use Rattle.rules.specs.Limits.{narrow}
@@ -15,7 +17,7 @@ use Rattle.laws.proofs.Reduce.{reduce_proper}
 use Rattle.laws.proofs.Counts.{count_below}
 use Rattle.laws.proofs.Lawful.{Named, Lawful, Short, lawful_parts, lawful_proper, unite_proper}
 use Rattle.laws.proofs.Stored.{strs_of_words, stored_lawful, stored_is}
-use Rattle.unions.specs.declared.Joined.{Joined}
+use Rattle.rules.specs.declared.Counts.{Counts}
 use Rattle.unions.specs.Unions.{cleared, merge, reduced, lifted, joined_id, joined_update, can_join, joined_counts, joined_update_in, joined_id_in}
 use Rattle.unions.proofs.Words.{strs, of_string}
 use Rattle.unions.proofs.Merging.{merge_words, merge_union}
@@ -29,7 +31,7 @@ abbrev pub room : ℕ
 room = 2 * narrow.strings
 
 -- the words at the front of both buffers are those of the stamp
-pub record Told (x : Stamp) (r : Joined) (us is : List ℕ) : Type 0 where
+pub record Told (x : Stamp) (r : Counts) (us is : List ℕ) : Type 0 where
   pub update : map str_of (take r.update us) ≡ x.update
   pub id : map str_of (take r.id is) ≡ x.id
   pub update_words : all (is_word narrow.digits) (take r.update us) ≡ true
@@ -39,6 +41,11 @@ pub record Told (x : Stamp) (r : Joined) (us is : List ℕ) : Type 0 where
   pub fits : r.id ≤ room
   pub update_room : length us ≡ room
   pub id_room : length is ≡ room
+
+-- a join has room in such buffers, and tells of the stamp
+abbrev pub Answered : Stamp → Option Counts → List ℕ → List ℕ → Type 0
+Answered x (Some r) us is = Told x r us is
+Answered x None us is = ⊥
 
 -- a string's digits leave room for its length
 short : narrow.digits ≤ 58
@@ -173,14 +180,9 @@ module _ (a b : Stamp) (ha : lawful narrow a ≡ true) (hb : lawful narrow b ≡
       fits : (m n : Name) → Named narrow m → Named narrow n → length (map word_of m) + length (map word_of n) ≤ length zeros
       fits m n hm hn = omega (arith, both_few m n hm hn, length-replicate {A = ℕ} room 0)
 
-  module _ (r : Joined) (us is : List ℕ)
-      (told : r ≡ joined_counts (map word_of a.update) (map word_of a.id) (map word_of b.update) (map word_of b.id) zeros zeros)
+  module _ (us is : List ℕ)
       (updateTold : us ≡ joined_update_in (map word_of a.update) (map word_of a.id) (map word_of b.update) (map word_of b.id) zeros zeros)
       (idTold : is ≡ joined_id_in (map word_of a.update) (map word_of a.id) (map word_of b.update) (map word_of b.id) zeros zeros) where
-    counted : r ≡ record { fits = true; update = length update_words; id = length id_words }
-    unfolding joined_counts joined_update joined_id
-    counted = told ∙ rw can
-
     update_is : us ≡ cleared room update_words
     unfolding joined_update_in joined_update joined_id
     update_is = updateTold ∙ rw can (cleared_over room (length updates) update_words (lifted_few id_words updates) (few a.update b.update pa.update_named pb.update_named))
@@ -189,23 +191,29 @@ module _ (a b : Stamp) (ha : lawful narrow a ≡ true) (hb : lawful narrow b ≡
     unfolding joined_id_in joined_id
     id_is = idTold ∙ rw can (cleared_over room (length ids) id_words (reduced_few ids) (few a.id b.id pa.id_named pb.id_named))
 
-    stamps_joined : Told j r us is
-    stamps_joined =
-        let c = ap (λ (s : Joined). s.id) counted in
-        let d = ap (λ (s : Joined). s.update) counted in
-        let f = at_front r.id is id_words c id_is in
-        let g = at_front r.update us update_words d update_is in
+    told : Told j (record { update = length update_words; id = length id_words }) us is
+    told =
+        let f = at_front (length id_words) is id_words refl id_is in
+        let g = at_front (length update_words) us update_words refl update_is in
         let k : length id_words ≤ room = omega (arith, reduced_few ids, few a.id b.id pa.id_named pb.id_named) in
         record {
           update = ap strs g ∙ update_strs;
           id = ap strs f ∙ id_strs;
           update_words = rw g update_words_lem;
           id_words = rw f id_words_lem;
-          counts = omega (arith, c, d, update_few_lem);
-          fits = omega (arith, c, k);
+          counts = update_few_lem;
+          fits = k;
           update_room = ap length update_is ∙ cleared_length room update_words (omega (arith, update_few_lem, k));
           id_room = ap length id_is ∙ cleared_length room id_words k;
         }
+
+    stamps_joined : (r : Option Counts)
+        → r ≡ joined_counts (map word_of a.update) (map word_of a.id) (map word_of b.update) (map word_of b.id) zeros zeros
+        → Answered j r us is
+    unfolding joined_counts joined_update joined_id
+    stamps_joined r e =
+        let f : r ≡ Some (record { update = length update_words; id = length id_words }) = e ∙ rw can in
+        subst (λ (o : Option Counts). Answered j o us is) (sym f) told
 
 -- ---- two stored records
 
@@ -218,13 +226,14 @@ module _ (r : Record) (h : is_stored narrow r ≡ true) where
   unfolding stored
   id_front_is = ap (λ (s : Record). front s.id) (stored_is narrow r h) ∙ front_is (held r).id
 
-pub records_joined : (a b : Record) → is_stored narrow a ≡ true → is_stored narrow b ≡ true → (r : Joined) (us is : List ℕ)
+pub records_joined : (a b : Record) → is_stored narrow a ≡ true → is_stored narrow b ≡ true → (r : Option Counts) (us is : List ℕ)
     → r ≡ joined_counts (front a.update) (front a.id) (front b.update) (front b.id) (replicate room 0) (replicate room 0)
     → us ≡ joined_update_in (front a.update) (front a.id) (front b.update) (front b.id) (replicate room 0) (replicate room 0)
     → is ≡ joined_id_in (front a.update) (front a.id) (front b.update) (front b.id) (replicate room 0) (replicate room 0)
-    → Told (join (held a) (held b)) r us is
+    → Answered (join (held a) (held b)) r us is
 records_joined a b ha hb r us is p q s =
-    stamps_joined (held a) (held b) (stored_lawful narrow a ha) (stored_lawful narrow b hb) r us is
-    (rw (update_front a ha, id_front_is a ha, update_front b hb, id_front_is b hb) at p)
+    stamps_joined (held a) (held b) (stored_lawful narrow a ha) (stored_lawful narrow b hb) us is
     (rw (update_front a ha, id_front_is a ha, update_front b hb, id_front_is b hb) at q)
     (rw (update_front a ha, id_front_is a ha, update_front b hb, id_front_is b hb) at s)
+    r
+    (rw (update_front a ha, id_front_is a ha, update_front b hb, id_front_is b hb) at p)

@@ -1,66 +1,71 @@
--- What a turn of `seek`, of `put_once` and of `lift` leaves to do. Assumes nothing.
-use Rattle.laws.proofs.Library.{◌≡◌, refl, sym, ap, ◌∙◌, Bool, true, false, cond, not, ◌&&◌, and-false, List, [], ◌∷◌, reverse_aux, reverse, ◌⊎◌, inl, inr}
-use Rattle.laws.proofs.Library.{ℕ, zero, suc, ◌+◌, ◌-◌, ◌≤◌, ◌<◌, add-one, arith, lt-ltb, le-ltb, eq-eqb, ne_eqb, eqb, ltb, length, get_or, take, drop}
+-- What a turn of `seek`, of `push_once` and of `lift` leaves to do. Assumes nothing.
+use Rattle.laws.proofs.Library.{◌≡◌, refl, sym, ap, ◌∙◌, Bool, true, false, cond, and-false, List, [], ◌∷◌, reverse_aux, reverse, ◌⊎◌, inl, inr}
+use Rattle.laws.proofs.Library.{ℕ, zero, suc, ◌+◌, ◌-◌, ◌≤◌, ◌<◌, add-one, arith, lt-ltb, le-ltb, eqb, ltb, length, get_or, take, drop}
 use Rattle.laws.proofs.Library.{drop_of_length-le, drop-cons, get_or-take, length-take-le}
+use Rattle.std.specs.declared.option.Option.{Option}
+use Rattle.std.specs.declared.option.Option.TheVariants.{None, Some}
+use Rattle.std.specs.Option.{option_copied, option_eq}
+use Rattle.std.specs.List.{slice_get}
+use Rattle.std.proofs.Common.{Bor}
+use Rattle.std.proofs.lemmas.Option.{slice_get-get_or}
 use Rattle.strings.specs.Words.{begins}
 use Rattle.unions.specs.Unions.{stack, seek, root, lift, once_from, once, lifted, once_on}
-use Rattle.unions.proofs.Stacks.{stack_top, stack_front, drop_on, same_at}
+use Rattle.unions.proofs.Turns.{behind_first, behind_is}
+use Rattle.unions.proofs.Stacks.{stack_front, same_at}
 
 -- ---- the id's words
 
-module _ (id : List ℕ) (i r : ℕ) where
-  abbrev here : ℕ
-  here = get_or id i 0
+pub seek_next : (id : List ℕ) (r : ℕ) → 1 ≤ length id → get_or id 0 0 < r → begins (get_or id 0 0) r ≡ false → seek (behind_first id) r ≡ seek id r
+unfolding seek
+seek_next [] r h l e = absurd (omega arith)
+seek_next (t ∷ i) r h l e = rw behind_is (simp (lt-ltb t r l, e))
 
-  pub seek_next : i < length id → here < r → begins here r ≡ false → seek (drop (i + 1) id) r ≡ seek (drop i id) r
-  unfolding seek
-  seek_next h l e = rw (add-one, drop-cons id i 0 h) (simp (lt-ltb here r l, e))
+pub seek_stop : (id : List ℕ) (r : ℕ) → 1 ≤ length id → (r ≤ get_or id 0 0) ⊎ (begins (get_or id 0 0) r ≡ true) → seek id r ≡ id
+unfolding seek
+seek_stop [] r h l = absurd (omega arith)
+seek_stop (t ∷ i) r h (inl l) = simp (le-ltb t r l)
+seek_stop (t ∷ i) r h (inr e) = rw (e, and-false (ltb t r))
 
-  pub seek_stop : i < length id → (r ≤ here) ⊎ (begins here r ≡ true) → seek (drop i id) r ≡ drop i id
-  unfolding seek
-  seek_stop h l = rw (drop-cons id i 0 h) (by l)
-    where
-      by : (r ≤ here) ⊎ (begins here r ≡ true)
-          → cond (ltb here r && not (begins here r)) (seek (drop (suc i) id) r) (here ∷ drop (suc i) id) ≡ here ∷ drop (suc i) id
-      by (inl k) = simp (le-ltb here r k)
-      by (inr k) = rw (k, and-false (ltb here r))
+pub seek_end : (id : List ℕ) (r : ℕ) → length id < 1 → seek id r ≡ id
+unfolding seek
+seek_end [] r h = refl
+seek_end (t ∷ i) r h = absurd (omega arith)
 
-  pub seek_end : length id ≤ i → seek (drop i id) r ≡ drop i id
-  unfolding seek
-  seek_end h = rw (drop_of_length-le id h)
+pub root_here : (id : List ℕ) (r : ℕ) → 1 ≤ length id → get_or id 0 0 < r → get_or id 0 0 ≡ root id r
+unfolding root
+root_here [] r h l = absurd (omega arith)
+root_here (t ∷ i) r h l = simp (lt-ltb t r l)
 
-  pub root_here : i < length id → here < r → here ≡ root (drop i id) r
-  unfolding root
-  root_here h l = rw (drop-cons id i 0 h) (simp (lt-ltb here r l))
+pub root_self : (id : List ℕ) (r : ℕ) → 1 ≤ length id → r ≤ get_or id 0 0 → r ≡ root id r
+unfolding root
+root_self [] r h l = absurd (omega arith)
+root_self (t ∷ i) r h l = simp (le-ltb t r l)
 
-  pub root_self : i < length id → r ≤ here → r ≡ root (drop i id) r
-  unfolding root
-  root_self h l = rw (drop-cons id i 0 h) (simp (le-ltb here r l))
-
-  pub root_end : length id ≤ i → r ≡ root (drop i id) r
-  unfolding root
-  root_end h = rw (drop_of_length-le id h)
+pub root_end : (id : List ℕ) (r : ℕ) → length id < 1 → r ≡ root id r
+unfolding root
+root_end [] r h = refl
+root_end (t ∷ i) r h = absurd (omega arith)
 
 -- ---- a word once
 
-module _ (l : List ℕ) (x k : ℕ) where
-  abbrev last : ℕ
-  last = get_or l (k - 1) 0
+-- b is whether the last of the first k words is x
+pub once_tells : (l : List ℕ) (x k : ℕ) → k ≤ length l → (o : Option (Bor ℕ)) (y : Bor ℕ) (b : Bool) → y.now ≡ x
+    → option_copied o ≡ slice_get (take k l) (length (take k l) - 1) → b ≡ option_eq (λ a c. eqb a.now c.now) o (Some y)
+    → once_on x (stack l k) ≡ cond b (stack l k) (x ∷ stack l k)
+unfolding once_on stack
+once_tells l x zero h None y b p q e = rw e
+once_tells l x zero h (Some z) y b p q e = absurd (cc)
+once_tells l x (suc k) h o y b p q e = by o (q ∙ there) e
+  where
+    there : slice_get (take (suc k) l) (length (take (suc k) l) - 1) ≡ Some (get_or l k 0)
+    there =
+        let c : length (take (suc k) l) - 1 ≡ k = omega (arith, length-take-le (suc k) l h) in
+        rw c (slice_get-get_or (take (suc k) l) k 0 (omega (arith, length-take-le (suc k) l h)) ∙ ap Some (get_or-take (suc k) l k 0 (omega arith)))
 
-  pub once_same : 0 < k → last ≡ x → stack l k ≡ once_on x (stack l k)
-  unfolding once_on
-  once_same h e = rw (stack_top l k h) (simp (eq-eqb last x e))
-
-  pub once_new : ((last ≡ x → ⊥) ⊎ (k ≤ 0)) → once_on x (stack l k) ≡ x ∷ stack l k
-  unfolding once_on stack
-  once_new h = by k refl h
-    where
-      by : (m : ℕ) → k ≡ m → ((last ≡ x → ⊥) ⊎ (k ≤ 0)) → once_on x (stack l m) ≡ x ∷ stack l m
-      by zero p h = refl
-      by (suc m) p (inl e) =
-          let q : k - 1 ≡ m = omega arith in
-          simp (ne_eqb (get_or l m 0) x (λ z. e (ap (λ (n : ℕ). get_or l n 0) q ∙ z)))
-      by (suc m) p (inr e) = absurd (omega arith)
+    by : (o : Option (Bor ℕ)) → option_copied o ≡ Some (get_or l k 0) → b ≡ option_eq (λ a c. eqb a.now c.now) o (Some y)
+        → once_on x (stack l (suc k)) ≡ cond b (stack l (suc k)) (x ∷ stack l (suc k))
+    by None q e = absurd (cc)
+    by (Some z) q e = let f : z.now ≡ get_or l k 0 = cc in rw (e, f, p)
 
 unfoldable pub once_all : List ℕ → List ℕ → List ℕ
 once_all n [] = n
@@ -84,25 +89,16 @@ once_all_lem (a ∷ l) = once_from_lem l a []
 
 -- ---- a turn of `lift`
 
-module _ (id start : List ℕ) (count : ℕ) (room : count ≤ length start) where
-  abbrev given : List ℕ
-  given = take count start
-
-  -- with the stack of l's first k words, the id's words from j on, and the words from i on to come
-  pub lift_more : (l after : List ℕ) (j j' k r i x : ℕ) → i < count → k ≤ i → drop i l ≡ drop i start
-      → drop j' id ≡ seek (drop j id) (get_or l i 0) → x ≡ root (drop j' id) (get_or l i 0)
-      → stack after r ≡ once_on x (stack l k) → drop (k + 1) after ≡ drop (k + 1) l
-      → (drop (i + 1) after ≡ drop (i + 1) start)
-      × (once_all (stack after r) (lift (drop j' id) (drop (i + 1) given)) ≡ once_all (stack l k) (lift (drop j id) (drop i given)))
+-- with the stack of l's first k words, the rest of the id, and the words from i on to come
+module _ (start : List ℕ) where
+  pub lift_more : (l after id rest : List ℕ) (k r i x : ℕ) → i < length start → drop i l ≡ drop i start
+      → rest ≡ seek id (get_or l i 0) → x ≡ root rest (get_or l i 0) → stack after r ≡ once_on x (stack l k)
+      → once_all (stack after r) (lift rest (drop (i + 1) start)) ≡ once_all (stack l k) (lift id (drop i start))
   unfolding once_all lift
-  lift_more l after j j' k r i x h q e f g s d = (
-    drop_on (k + 1) (i + 1) after l (omega arith) d ∙ drop_on i (i + 1) l start (omega arith) e,
-    rw (s, g, f, same_at i l start e, sym (get_or-take count start i 0 h), add-one i, drop-cons given i 0 (omega (arith, length-take-le count start room))),
-  )
+  lift_more l after id rest k r i x h e f g s = rw (s, g, f, same_at i l start e, add-one i, drop-cons start i 0 h)
 
-  pub lift_end : (l : List ℕ) (j k i : ℕ) → count ≤ i → k ≤ length l
-      → once_all (stack l k) (lift (drop j id) (drop i given)) ≡ once_all [] (lift id given) → take k l ≡ lifted id given
+  pub lift_end : (l id whole : List ℕ) (k i : ℕ) → length start ≤ i → k ≤ length l
+      → once_all (stack l k) (lift id (drop i start)) ≡ once_all [] (lift whole start) → take k l ≡ lifted whole start
   unfolding once_all lift lifted
-  lift_end l j k i h q e =
-      sym (stack_front l k q)
-      ∙ ap reverse ((rw (drop_of_length-le given {i = i} (omega (arith, length-take-le count start room))) at e)) ∙ once_all_lem (lift id given)
+  lift_end l id whole k i h q e =
+      sym (stack_front l k q) ∙ ap reverse (rw (drop_of_length-le start {i = i} h) at e) ∙ once_all_lem (lift whole start)

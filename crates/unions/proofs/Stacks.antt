@@ -1,10 +1,10 @@
 -- The first words of a buffer as a stack, last first: what a push, a store and a turn of `reduce` make of it. Assumes nothing.
 use Rattle.laws.proofs.Library.{◌≡◌, refl, sym, ap, ap₂, ◌∙◌, true, false, List, [], ◌∷◌, ◌++◌, reverse_aux, reverse, append_assoc, append-nil, ◌⊎◌, inl}
 use Rattle.laws.proofs.Library.{inr, ℕ, zero, suc, ◌+◌, ◌-◌, ◌≤◌, ◌<◌, add-one, arith, eqb-true, eqb, length, get_or, take, drop, set, replicate}
-use Rattle.laws.proofs.Library.{length-append, length-replicate, drop_of_length-le, sets, sets-eq, take-suc, drop-cons, drop-drop, get_or-drop, get_or-take}
-use Rattle.laws.proofs.Library.{get_or-set_same, get_or-set_other, length-take-le}
+use Rattle.laws.proofs.Library.{drop_of_length-le, take-suc, drop-cons, drop-drop, get_or-drop, get_or-take}
+use Rattle.laws.proofs.Library.{get_or-set_same, get_or-set_other, length-take-le, length-drop, take-take}
 use Rattle.rules.specs.Strings.{siblings, common, str_of}
-use Rattle.rules.specs.Packed.{over}
+use borrow.Rule.Slice.PartMut.{put_mid}
 use Rattle.laws.proofs.Tests.{and_right}
 use Rattle.laws.proofs.Words.{str_length}
 use Rattle.unions.specs.Unions.{push, push_all, reduced, cleared, stack}
@@ -24,23 +24,41 @@ unfolding stack
 stack_top l zero h = absurd (omega arith)
 stack_top l (suc k) h = let e : suc k - 1 ≡ k = omega arith in rw e
 
-module _ (l : List ℕ) (x top : ℕ) where
+-- the words below are the first of the buffer's, and x is in hand
+module _ (words below : List ℕ) (x : ℕ) (part : below ≡ take (length below) words) where
   abbrev last : ℕ
-  last = get_or l (top - 1) 0
+  last = get_or below (length below - 1) 0
+
+  abbrev under : List ℕ
+  under = take (length below - 1) below
+
+  last_is : 1 ≤ length below → last ≡ get_or words (length below - 1) 0
+  last_is h =
+      ap (λ (l : List ℕ). get_or l (length below - 1) 0) part ∙ get_or-take (length below) words (length below - 1) 0 (omega arith)
+
+  under_count : length under ≡ length below - 1
+  under_count = length-take-le (length below - 1) below (omega arith)
+
+  pub under_part : under ≡ take (length under) words
+  under_part =
+      ap (take (length below - 1)) part ∙ take-take (length below - 1) (length below) words (omega arith)
+      ∙ ap (λ (k : ℕ). take k words) (sym under_count)
 
   -- the sibling is on top
-  pub push_again : 0 < top → siblings (str_of last) (str_of x) ≡ true → push (last - 1) (stack l (top - 1)) ≡ push x (stack l top)
+  pub push_again : 1 ≤ length below → siblings (str_of last) (str_of x) ≡ true
+      → push (last - 1) (stack words (length under)) ≡ push x (stack words (length below))
   unfolding push
-  push_again h e = rw (stack_top l top h) (simp e)
+  push_again h e =
+      let f : siblings (str_of (get_or words (length below - 1) 0)) (str_of x) ≡ true = rw (last_is h) at e in
+      rw (under_count, last_is h, stack_top words (length below) h) (simp f)
 
-  pub push_ends : (siblings (str_of last) (str_of x) ≡ false) ⊎ (top ≤ 0) → push x (stack l top) ≡ x ∷ stack l top
+  pub push_ends : (length below < 1) ⊎ ((1 ≤ length below) × (siblings (str_of last) (str_of x) ≡ false))
+      → push x (stack words (length below)) ≡ x ∷ stack words (length below)
   unfolding push stack
-  push_ends h = by top refl h
-    where
-      by : (k : ℕ) → top ≡ k → (siblings (str_of last) (str_of x) ≡ false) ⊎ (top ≤ 0) → push x (stack l k) ≡ x ∷ stack l k
-      by zero p h = refl
-      by (suc k) p (inl e) = let f : siblings (str_of (get_or l k 0)) (str_of x) ≡ false = (let q : top - 1 ≡ k = omega arith in rw q at e) in simp f
-      by (suc k) p (inr e) = absurd (omega arith)
+  push_ends (inl h) = let e : length below ≡ 0 = omega arith in rw e
+  push_ends (inr (h, e)) =
+      let f : siblings (str_of (get_or words (length below - 1) 0)) (str_of x) ≡ false = rw (last_is h) at e in
+      rw (stack_top words (length below) h) (simp f)
 
 -- what is stored above makes no difference
 stack_above : (l : List ℕ) (k i x : ℕ) → k ≤ i → stack (set l i x) k ≡ stack l k
@@ -75,32 +93,27 @@ same_at i l m e =
     let on : i + 0 ≡ i = omega arith in
     ap (λ (k : ℕ). get_or l k 0) (sym on) ∙ sym (get_or-drop i l 0 0) ∙ ap (λ (r : List ℕ). get_or r 0 0) e ∙ get_or-drop i m 0 0 ∙ ap (λ (k : ℕ). get_or m k 0) on
 
-module _ (start : List ℕ) (count : ℕ) (room : count ≤ length start) where
-  abbrev given : List ℕ
-  given = take count start
+-- the words ahead are as they were
+pub ahead : (start l after : List ℕ) (k i : ℕ) → k ≤ i → drop i l ≡ drop i start → drop (k + 1) after ≡ drop (k + 1) l → drop (i + 1) after ≡ drop (i + 1) start
+ahead start l after k i q e d = drop_on (k + 1) (i + 1) after l (omega arith) d ∙ drop_on i (i + 1) l start (omega arith) e
 
-  -- with the stack of l's first k words, and the words from i on to come
-  pub turn_more : (l after : List ℕ) (k r i : ℕ) → i < count → k ≤ i → drop i l ≡ drop i start
-      → stack after r ≡ push (get_or l i 0) (stack l k) → drop (k + 1) after ≡ drop (k + 1) l
-      → (drop (i + 1) after ≡ drop (i + 1) start) × (push_all (stack after r) (drop (i + 1) given) ≡ push_all (stack l k) (drop i given))
+-- with the stack of l's first k words, and the words from i on to come
+module _ (start : List ℕ) where
+  pub turn_more : (l after : List ℕ) (k r i : ℕ) → i < length start → drop i l ≡ drop i start → stack after r ≡ push (get_or l i 0) (stack l k)
+      → push_all (stack after r) (drop (i + 1) start) ≡ push_all (stack l k) (drop i start)
   unfolding push_all
-  turn_more l after k r i h q e s d = (
-    drop_on (k + 1) (i + 1) after l (omega arith) d ∙ drop_on i (i + 1) l start (omega arith) e,
-    rw (s, same_at i l start e, sym (get_or-take count start i 0 h), add-one i, drop-cons given i 0 (omega (arith, length-take-le count start room))),
-  )
+  turn_more l after k r i h e s = rw (s, same_at i l start e, add-one i, drop-cons start i 0 h)
 
   -- no word is to come: the stack is what is left
-  pub turn_end : (l : List ℕ) (k i : ℕ) → count ≤ i → k ≤ length l → push_all (stack l k) (drop i given) ≡ push_all [] given → take k l ≡ reduced given
+  pub turn_end : (l : List ℕ) (k i : ℕ) → length start ≤ i → k ≤ length l → push_all (stack l k) (drop i start) ≡ push_all [] start → take k l ≡ reduced start
   unfolding push_all reduced
-  turn_end l k i h q e =
-      sym (stack_front l k q)
-      ∙ ap reverse ((rw (drop_of_length-le given {i = i} (omega (arith, length-take-le count start room))) at e))
+  turn_end l k i h q e = sym (stack_front l k q) ∙ ap reverse (rw (drop_of_length-le start {i = i} h) at e)
 
-  -- and zeros in the place of the others are stored behind it
-  pub turn_clears : (w l after : List ℕ) (k : ℕ) → k ≤ count → length l ≡ length start → take k l ≡ w → drop count l ≡ drop count start
-      → after ≡ sets l k (replicate (count - k) 0) → (k ≡ length w) × (after ≡ over (cleared count w) start)
-  turn_clears w l after k h q t d s =
-      let n : length w ≡ k = ap length (sym t) ∙ length-take-le k l (omega arith) in
-      let full : k + length {A = ℕ} (replicate (count - k) 0) ≡ count = omega (arith, length-replicate {A = ℕ} (count - k) 0) in
-      let all : length (cleared count w) ≡ count = length-append w (replicate (count - length w) 0) ∙ rw n full in
-      (sym n, s ∙ sets-eq (replicate (count - k) 0) l k (omega arith) ∙ rw (all, full, t, d, n))
+-- and zeros are stored behind it
+pub turn_clears : (w l f : List ℕ) (k c : ℕ) → length l ≡ c → k ≤ length l → take k l ≡ w → f ≡ replicate (length (take (length l - k) (drop k l))) 0
+    → (k ≡ length w) × (put_mid k (length l - k) l f ≡ cleared c w)
+turn_clears w l f k c n h t s =
+    let m : length w ≡ k = ap length (sym t) ∙ length-take-le k l h in
+    let none : drop (length l - k) (drop k l) ≡ [] = drop-drop (length l - k) k l ∙ drop_of_length-le l {i = k + (length l - k)} (omega arith) in
+    let zeros : length (take (length l - k) (drop k l)) ≡ length l - k = length-take-le (length l - k) (drop k l) (omega (arith, length-drop k l)) in
+    (sym m, rw (s, t, none, zeros, n, m) (ap (λ (z : List ℕ). w ++ z) (append-nil (replicate (c - k) 0))))

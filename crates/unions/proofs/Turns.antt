@@ -1,90 +1,71 @@
--- What the loop of `unite` comes to from a turn on: a turn leaves it as it was, and at the end one of the two is all that is left. Assumes nothing.
-use Rattle.laws.proofs.Library.{◌≡◌, refl, sym, ap, ap₂, ◌∙◌, Bool, true, false, cond, not, List, [], ◌∷◌, ◌++◌, append-nil, ◌⊎◌, inl, inr, ℕ, suc, ◌+◌}
-use Rattle.laws.proofs.Library.{◌≤◌, ◌<◌, zero-add, add_assoc, add-one, arith, lt-ltb, le-ltb, length, drop, get_or, length-append, drop_of_length-le, sets}
-use Rattle.laws.proofs.Library.{drop-cons}
+-- What the loop of `unite` comes to from a turn on: a turn leaves it as it was, and at the end what is left of one of the two follows. Assumes nothing.
+use Rattle.laws.proofs.Library.{◌≡◌, sym, ap, ap₂, ◌∙◌, Bool, true, false, cond, List, [], ◌∷◌, ◌++◌, ◌⊎◌, inl, inr, ℕ, suc, ◌+◌, ◌-◌, ◌≤◌, ◌<◌, zero-add, add-one}
+use Rattle.laws.proofs.Library.{arith, append_assoc, eqb, eqb·suc-zero, drop-drop, lt-ltb, le-ltb, length, take, drop, get_or, set, sets, sets-eq, take-length}
+use borrow.Rule.Slice.PartMut.{put_mid}
 use Rattle.rules.specs.Packed.{over}
+use Rattle.laws.proofs.Tests.{clash}
 use Rattle.strings.specs.Words.{begins}
-use Rattle.unions.specs.Unions.{opt, merge_from, merge}
+use Rattle.unions.specs.Unions.{merge_from, merge}
 use Rattle.unions.proofs.Counts.{merge_few}
-use Rattle.unions.proofs.Stores.{sets_append, sets_front}
-
--- ---- one turn of the merge
-
-module _ (s t : ℕ) (m n : List ℕ) where
-  merge_lower : s < t → merge (s ∷ m) (t ∷ n) ≡ opt (not (begins s t)) s ++ merge m (t ∷ n)
-  unfolding merge merge_from
-  merge_lower h = simp (lt-ltb s t h) (by (begins s t))
-    where
-      by : (b : Bool) → cond b (merge m (t ∷ n)) (s ∷ merge m (t ∷ n)) ≡ opt (not b) s ++ merge m (t ∷ n)
-      by true = refl
-      by false = refl
-
-  merge_upper : t ≤ s → merge (s ∷ m) (t ∷ n) ≡ opt (not (begins t s)) t ++ merge (s ∷ m) n
-  unfolding merge merge_from
-  merge_upper h = simp (le-ltb s t h) (by (begins t s))
-    where
-      by : (b : Bool) → cond b (merge (s ∷ m) n) (t ∷ merge (s ∷ m) n) ≡ opt (not b) t ++ merge (s ∷ m) n
-      by true = refl
-      by false = refl
-
-merge_none : (m : List ℕ) → merge m [] ≡ m
-unfolding merge merge_from
-merge_none [] = refl
-merge_none (s ∷ m) = refl
-
--- ---- in the loop
+use Rattle.unions.proofs.Stores.{sets_front}
 
 -- with k words in the buffer, and m and n to come
 unfoldable pub merges : List ℕ → List ℕ → List ℕ → ℕ → ℕ × List ℕ
 merges m n out k = (k + length (merge m n), sets out k (merge m n))
 
--- a word is put, or none
-puts : (w m n a b out : List ℕ) (k : ℕ) → merge a b ≡ w ++ merge m n → merges m n (sets out k w) (k + length w) ≡ merges a b out k
+-- the words behind the first
+abbrev pub behind_first : List ℕ → List ℕ
+behind_first l = take (length l - 1) (drop 1 l)
+
+pub behind_is : (x : ℕ) (l : List ℕ) → behind_first (x ∷ l) ≡ l
+behind_is x l = let e : suc (length l) - 1 ≡ length l = omega arith in rw e (take-length l)
+
+-- low, the lower of the first words of m and n, is taken from its name, high is the other, and m' and n' are to come
+pub record Turn (m n m' n' : List ℕ) (low high : ℕ) : Type 0 where
+  pub next : merge m n ≡ cond (begins low high) (merge m' n') (low ∷ merge m' n')
+  pub fewer : length m' + length n' + 1 ≡ length m + length n
+
+pub turn : (m n m' n' : List ℕ) (p : ℕ × ℕ) → 1 ≤ length m → 1 ≤ length n
+    → ((get_or m 0 0 < get_or n 0 0) × (m' ≡ behind_first m) × (n' ≡ n) × (p ≡ (get_or m 0 0, get_or n 0 0)))
+    ⊎ ((get_or n 0 0 ≤ get_or m 0 0) × (m' ≡ m) × (n' ≡ behind_first n) × (p ≡ (get_or n 0 0, get_or m 0 0)))
+    → Turn m n m' n' p.0 p.1
+unfolding merge merge_from
+turn [] n m' n' p a b h = absurd (omega arith)
+turn (s ∷ m) [] m' n' p a b h = absurd (omega arith)
+turn (s ∷ m) (t ∷ n) m' n' p a b (inl (l, e, f, g)) = rw (g, f, e, behind_is) (record { next = simp (lt-ltb s t l); fewer = omega arith })
+turn (s ∷ m) (t ∷ n) m' n' p a b (inr (l, e, f, g)) = rw (g, f, e, behind_is) (record { next = simp (le-ltb s t l); fewer = omega arith })
+
+module _ (k : ℕ) (out : List ℕ) where
+  module _ {m n m' n' : List ℕ} {low high : ℕ} (u : Turn m n m' n' low high) where
+    pub kept : begins low high ≡ false → merges m' n' (set out k low) (k + 1) ≡ merges m n out k
+    unfolding merges
+    kept e = rw (u.next, e) (ap₂ (λ (x : ℕ) (y : List ℕ). (x, y)) (omega arith) (rw add-one))
+
+    pub lost : begins low high ≡ true → merges m' n' out k ≡ merges m n out k
+    unfolding merges
+    lost e = rw (u.next, e)
+
+  -- one of the two has no word left: what is left of the other follows
+  pub merges_rest : (ours theirs rest : List ℕ) → (length ours < 1) ⊎ (length theirs < 1) → (e : Bool) → e ≡ eqb (length ours) 0
+      → ((e ≡ true) × (rest ≡ theirs)) ⊎ ((e ≡ false) × (rest ≡ ours)) → merges ours theirs out k ≡ (k + length rest, sets out k rest)
+  unfolding merges merge merge_from
+  merges_rest [] theirs rest h e q (inl r) = rw (r.1)
+  merges_rest [] theirs rest h e q (inr r) = absurd (clash q r.0)
+  merges_rest (s ∷ m) theirs rest h e q (inl r) = absurd (clash r.0 (q ∙ eqb·suc-zero (length m)))
+  merges_rest (s ∷ m) [] rest h e q (inr r) = rw (r.1)
+  merges_rest (s ∷ m) (t ∷ n) rest (inl h) e q (inr r) = absurd (omega arith)
+  merges_rest (s ∷ m) (t ∷ n) rest (inr h) e q (inr r) = absurd (omega arith)
+
+-- and is written behind what is written
+pub merges_all : (m n out start rest f : List ℕ) (k : ℕ) → length m + length n ≤ length start → k + length rest ≤ length out
+    → (k + length rest, sets out k rest) ≡ merges m n start 0 → f ≡ rest
+    → (k + length rest ≡ length (merge m n)) × (put_mid k (k + length rest - k) out f ≡ over (merge m n) start)
 unfolding merges
-puts w m n a b out k e =
-    ap₂ (λ (x : ℕ) (y : List ℕ). (x, y))
-    (add_assoc k (length w) (length (merge m n)) ∙ ap (λ (x : ℕ). k + x) (sym (length-append w (merge m n))) ∙ ap (λ (l : List ℕ). k + length l) (sym e))
-    (sym (sets_append w (merge m n) out k) ∙ ap (sets out k) (sym e))
-
-module _ (m n out : List ℕ) (k i j : ℕ) (hi : i < length m) (hj : j < length n) where
-  abbrev here : ℕ
-  here = get_or m i 0
-
-  abbrev there : ℕ
-  there = get_or n j 0
-
-  -- z is whether the higher word extends the lower one
-  pub merges_lower : (z : Bool) (r : ℕ) (after : List ℕ) → here < there → z ≡ begins here there
-      → r ≡ k + length (opt (not z) here) → after ≡ sets out k (opt (not z) here)
-      → merges (drop (i + 1) m) (drop j n) after r ≡ merges (drop i m) (drop j n) out k
-  merges_lower z r after h e p q =
-      rw (q, p, e)
-      (puts (opt (not (begins here there)) here) (drop (i + 1) m) (drop j n) (drop i m) (drop j n) out k
-      (rw (add-one, drop-cons m i 0 hi, drop-cons n j 0 hj) (merge_lower here there (drop (suc i) m) (drop (suc j) n) h)))
-
-  pub merges_upper : (z : Bool) (r : ℕ) (after : List ℕ) → there ≤ here → z ≡ begins there here
-      → r ≡ k + length (opt (not z) there) → after ≡ sets out k (opt (not z) there)
-      → merges (drop i m) (drop (j + 1) n) after r ≡ merges (drop i m) (drop j n) out k
-  merges_upper z r after h e p q =
-      rw (q, p, e)
-      (puts (opt (not (begins there here)) there) (drop i m) (drop (j + 1) n) (drop i m) (drop j n) out k
-      (rw (add-one, drop-cons m i 0 hi, drop-cons n j 0 hj) (merge_upper here there (drop (suc i) m) (drop (suc j) n) h)))
-
--- one of the two has no word left: what is left of the other follows
-pub merges_end : (m n out : List ℕ) (k i j : ℕ) → (length n ≤ j) ⊎ (length m ≤ i)
-    → merges (drop i m) (drop j n) out k
-    ≡ (k + length (drop i m) + length (drop j n), sets (sets out k (drop i m)) (k + length (drop i m)) (drop j n))
-unfolding merges merge
-merges_end m n out k i j h =
-    ap₂ (λ (x : ℕ) (y : List ℕ). (x, y))
-    (ap (λ (l : List ℕ). k + length l) (one h) ∙ ap (λ (x : ℕ). k + x) (length-append (drop i m) (drop j n)) ∙ omega arith)
-    (ap (sets out k) (one h) ∙ sets_append (drop i m) (drop j n) out k)
-  where
-    one : (length n ≤ j) ⊎ (length m ≤ i) → merge (drop i m) (drop j n) ≡ drop i m ++ drop j n
-    one (inl e) = rw (drop_of_length-le n e) (merge_none (drop i m) ∙ sym (append-nil (drop i m)))
-    one (inr e) = rw (drop_of_length-le m e)
-
-pub merges_all : (m n out : List ℕ) → length m + length n ≤ length out → merges m n out 0 ≡ (length (merge m n), over (merge m n) out)
-unfolding merges
-merges_all m n out h =
-    ap₂ (λ (x : ℕ) (y : List ℕ). (x, y)) (zero-add (length (merge m n))) (sets_front (merge m n) out (omega (arith, merge_few m n)))
+merges_all m n out start rest f k h room e g =
+    let p = ap (λ (r : ℕ × List ℕ). r.0) e in
+    let q = ap (λ (r : ℕ × List ℕ). r.1) e in
+    let d : k + length rest - k ≡ length rest = omega arith in
+    let put : put_mid k (k + length rest - k) out f ≡ sets out k rest =
+    rw (g, d) (ap (λ (l : List ℕ). take k out ++ (rest ++ l)) (drop-drop (length rest) k out)
+    ∙ sym (append_assoc (take k out) rest (drop (k + length rest) out)) ∙ sym (sets-eq rest out k room)) in
+    (p ∙ zero-add (length (merge m n)), put ∙ q ∙ sets_front (merge m n) start (omega (arith, merge_few m n)))

@@ -6,4 +6,4 @@ use Rattle.unions.specs.contracts.join
 
 pub join_one_answer : OneAnswer join.ended (λ M 𝓤 𝓛. join.clauses 𝓛) (λ M 𝓤 𝓛. join.spec 𝓛)
 join_one_answer M 𝓤 𝓛 mem run =
-    (refl, λ κs a g h r s v w. both_say 𝓤 (λ e f. (agree e.0 f.0, λ i. (tt, (tt, (tt, (tt, (agree e.1 f.1 i, (agree e.2 f.2 i, tt)))))))))
+    (refl, λ κs a g h r s v w. both_say 𝓤 (λ e f. (agree e.0 f.0, λ i. (tt, (tt, (agree e.1 f.1 i, (agree e.2 f.2 i, tt)))))))

@@ -1,19 +1,16 @@
 -- Names as words in rising order: the union as one merge, the reduction of an id by a stack, and what reduction makes of the update.
 -- Each goes once over its words. That they are `union` and `reduce` of the rules is shown in proofs/.
-use Rattle.std.specs.Prelude.{Bool, true, false, cond, not, ◌&&◌, List, [], ◌∷◌, ◌++◌, reverse, ℕ, zero, suc, ◌+◌, ◌-◌, eqb, leb, ltb, length, get_or, replicate}
+use Rattle.std.specs.Prelude.{Bool, cond, not, ◌&&◌, List, [], ◌∷◌, ◌++◌, reverse, ℕ, zero, suc, ◌+◌, ◌-◌, eqb, leb, ltb, length, get_or, replicate}
+use Rattle.std.specs.declared.option.Option.{Option}
+use Rattle.std.specs.declared.option.Option.TheVariants.{None, Some}
 use Rattle.rules.specs.Strings.{siblings, str_of}
 use Rattle.rules.specs.Packed.{over}
 use Rattle.strings.specs.Words.{begins}
-use Rattle.unions.specs.declared.Joined.{Joined}
+use Rattle.rules.specs.declared.Counts.{Counts}
 
 -- t comes after s, and does not extend it
 abbrev pub behind : ℕ → ℕ → Bool
 behind t s = ltb s t && not (begins s t)
-
--- x, or nothing
-abbrev pub opt : Bool → ℕ → List ℕ
-opt true x = x ∷ []
-opt false x = []
 
 -- the words, and zeros behind them, c in all
 abbrev pub cleared : ℕ → List ℕ → List ℕ
@@ -96,10 +93,9 @@ abbrev pub can_join : List ℕ → List ℕ → List ℕ → List ℕ → List �
 can_join u i v j update id = leb (length u + length v) (length update) && leb (length i + length j) (length id)
 
 -- how many words they hold then
-unfoldable pub joined_counts : List ℕ → List ℕ → List ℕ → List ℕ → List ℕ → List ℕ → Joined
+unfoldable pub joined_counts : List ℕ → List ℕ → List ℕ → List ℕ → List ℕ → List ℕ → Option Counts
 joined_counts u i v j update id =
-    cond (can_join u i v j update id) (record { fits = true; update = length (joined_update u i v j); id = length (joined_id i j) })
-    (record { fits = false; update = 0; id = 0 })
+    cond (can_join u i v j update id) (Some (record { update = length (joined_update u i v j); id = length (joined_id i j) })) None
 
 -- and what: the words at the front, zeros in the place of what is gone, and the rest as it was
 unfoldable pub joined_update_in : List ℕ → List ℕ → List ℕ → List ℕ → List ℕ → List ℕ → List ℕ

@@ -1,208 +1,151 @@
 // Union and reduction of names in rising order, as lent words: each function goes once over its words.
 #![tactic(auto)]
 
-ghost use Rattle.std.specs.Prelude.{◌≡◌, ◌≤◌, ◌<◌, ◌+◌, ◌-◌, length, take, drop, replicate};
-ghost use Rattle.std.proofs.lemmas.List.Edits.{sets};
+ghost use Rattle.std.specs.Prelude.{◌≡◌, ◌≤◌, ◌<◌, ◌+◌, length, drop};
 ghost use Rattle.rules.specs.Packed.{over};
-ghost use Rattle.unions.specs.Unions.{opt, stack, cleared, merge, push, reduced, seek, root, once_on, lifted, joined_counts, joined_update_in, joined_id_in};
+ghost use Rattle.unions.specs.Unions.{stack, cleared, merge, push, reduced, seek, root, once_on, lifted, joined_counts, joined_update_in, joined_id_in};
 
+use rules::{Counts, StampWords};
 use strings::{are_siblings, begins};
 
-// What a join leaves: whether both buffers have room for it, and how many words the update and the id have then.
-#[derive(Clone, Copy)]
-pub struct Joined {
-    pub fits: bool,
-    pub update: usize,
-    pub id: usize,
-}
-
-// The join of the stamps [u|i] and [v|j]: the union of both ids, reduced, at the front of `id`, and the union of both updates, lifted beside it, at the
+// The join of two stamps: the union of both ids, reduced, at the front of `id`, and the union of both updates, lifted beside it, at the
 // front of `update`; zeros in the place of what reduction takes away, and the rest of both buffers stays. Gives how many words each has.
-// Each buffer has to have room for the words of both names. Where one has not, it is told, and both stay as they are.
+// Each buffer has to have room for the words of both names. Where one has not, nothing is given, and both stay as they are.
 pub fn join<'a>(
-    u: &'a [u64],
-    i: &'a [u64],
-    v: &'a [u64],
-    j: &'a [u64],
+    a: StampWords<'a>,
+    b: StampWords<'a>,
     update: &mut [u64],
     id: &mut [u64],
-) -> Joined
-    ensures { (result ≡ joined_counts u.now i.now v.now j.now update.old id.old)
-        × (update.new ≡ joined_update_in u.now i.now v.now j.now update.old id.old)
-        × (id.new ≡ joined_id_in u.now i.now v.now j.now update.old id.old) }
+) -> Option<Counts>
+    ensures { (result ≡ joined_counts a.entry.update.now a.entry.id.now b.entry.update.now b.entry.id.now update.old id.old)
+        × (update.new ≡ joined_update_in a.entry.update.now a.entry.id.now b.entry.update.now b.entry.id.now update.old id.old)
+        × (id.new ≡ joined_id_in a.entry.update.now a.entry.id.now b.entry.update.now b.entry.id.now update.old id.old) }
 {
-    if update.len() < u.len() + v.len() || id.len() < i.len() + j.len() {
-        return Joined {
-            fits: false,
-            update: 0,
-            id: 0,
-        };
+    if update.len() < a.update.len() + b.update.len() || id.len() < a.id.len() + b.id.len() {
+        return None;
     }
-    let n = unite(i, j, id);
-    let k = reduce(id, n);
-    let m = unite(u, v, update);
-    let c = lift(&id[..k], update, m);
-    Joined {
-        fits: true,
-        update: c,
-        id: k,
-    }
+    let both_ids = unite(a.id, b.id, id);
+    let ids = reduce(&mut id[..both_ids]);
+    let both_updates = unite(a.update, b.update, update);
+    let updates = lift(&id[..ids], &mut update[..both_updates]);
+    Some(Counts {
+        update: updates,
+        id: ids,
+    })
 }
 
-// The union of m and n at the front of the buffer; the rest of it stays. Gives how many words are written.
+// The union of m and n at the front of the buffer, the lower word first, and none that another begins with; the rest of the buffer stays. Gives how many
+// words are written.
 fn unite(m: &[u64], n: &[u64], out: &mut [u64]) -> usize
     requires { length m.now + length n.now ≤ length out.old }
     ensures { (result ≡ length (merge m.now n.now)) × (out.new ≡ over (merge m.now n.now) out.old) }
 {
-    let mut i = 0;
-    let mut j = 0;
-    let mut k = 0;
-    while i < m.len() && j < n.len() {
-        let s = m[i];
-        let t = n[j];
-        if s < t {
-            k = put(out, k, !begins(s, t), s);
-            i += 1;
+    let mut ours = m;
+    let mut theirs = n;
+    let mut count = 0;
+    while let ([s, more @ ..], [t, others @ ..]) = (ours, theirs) {
+        let (low, high) = if s < t {
+            ours = more;
+            (*s, *t)
         } else {
-            k = put(out, k, !begins(t, s), t);
-            j += 1;
+            theirs = others;
+            (*t, *s)
+        };
+        if !begins(low, high) {
+            out[count] = low;
+            count += 1;
         }
     }
-    k = copy(out, k, m, i);
-    copy(out, k, n, j)
+    let rest = if ours.is_empty() { theirs } else { ours };
+    let end = count + rest.len();
+    out[count..end].copy_from_slice(rest);
+    end
 }
 
-// The first words as reduction leaves an id; zeros in the place of those that are gone, and the rest of the buffer stays. Gives how many are left.
-fn reduce(id: &mut [u64], count: usize) -> usize
-    requires { count ≤ length id.old }
-    ensures { (result ≡ length (reduced (take count id.old))) × (id.new ≡ over (cleared count (reduced (take count id.old))) id.old) }
+// The words as reduction leaves an id, and zeros in the place of those that are gone. Gives how many are left.
+fn reduce(id: &mut [u64]) -> usize
+    ensures { (result ≡ length (reduced id.old)) × (id.new ≡ cleared (length id.old) (reduced id.old)) }
 {
-    let mut k = 0;
-    let mut i = 0;
-    while i < count {
+    let mut count = 0;
+    // stays: an index is no plainer otherwise: words are stored at the front of those that are read, so no iterator may hold them
+    for i in 0..id.len() {
         let s = id[i];
-        k = push(id, k, s);
-        i += 1;
+        count = push(id, count, s);
     }
-    clear(id, k, count);
-    k
+    id[count..].fill(0);
+    count
 }
 
-// The first words of an update as reduction leaves them beside the reduced id; zeros in the place of those that are gone, and the rest of the
-// buffer stays. Gives how many are left.
-fn lift(id: &[u64], u: &mut [u64], count: usize) -> usize
-    requires { count ≤ length u.old }
-    ensures { (result ≡ length (lifted id.now (take count u.old)))
-        × (u.new ≡ over (cleared count (lifted id.now (take count u.old))) u.old) }
+// The words of an update as reduction leaves them beside the reduced id, and zeros in the place of those that are gone. Gives how many are left.
+fn lift(id: &[u64], update: &mut [u64]) -> usize
+    ensures { (result ≡ length (lifted id.now update.old)) × (update.new ≡ cleared (length update.old) (lifted id.now update.old)) }
 {
-    let mut j = 0;
-    let mut k = 0;
-    let mut i = 0;
-    while i < count {
-        let r = u[i];
-        j = seek(id, j, r);
-        k = put_once(u, k, root(id, j, r));
-        i += 1;
+    let mut rest = id;
+    let mut count = 0;
+    // stays: an index, as in `reduce`
+    for i in 0..update.len() {
+        let r = update[i];
+        rest = seek(rest, r);
+        count = push_once(update, count, root(rest, r));
     }
-    clear(u, k, count);
-    k
+    update[count..].fill(0);
+    count
 }
 
-// Behind the words from j on that come before r and are no prefix of it.
-fn seek(id: &[u64], j: usize, r: u64) -> usize
-    requires { j ≤ length id.now }
-    ensures { (result ≤ length id.now) × (drop result id.now ≡ seek (drop j id.now) r) }
+// The id's words without those at the front that come before r and are no prefix of it.
+fn seek(id: &[u64], r: u64) -> &[u64]
+    ensures { result.now ≡ seek id.now r }
 {
-    let mut i = j;
-    while i < id.len() && id[i] < r && !begins(id[i], r) {
-        i += 1;
-    }
-    i
-}
-
-// The word at j where it is below r; else r.
-fn root(id: &[u64], j: usize, r: u64) -> u64
-    ensures { result ≡ root (drop j id.now) r }
-{
-    if j < id.len() {
-        let t = id[j];
-        if t < r {
-            return t;
-        }
-    }
-    r
-}
-
-// The word x behind the first k words, unless it is the last of them. Gives how many there are then.
-fn put_once(u: &mut [u64], k: usize, x: u64) -> usize
-    requires { k < length u.old }
-    ensures { (result ≤ k + 1) × (stack u.new result ≡ once_on x (stack u.old k))
-        × (drop (k + 1) u.new ≡ drop (k + 1) u.old) }
-{
-    if 0 < k {
-        if u[k - 1] == x {
-            return k;
-        }
-    }
-    u[k] = x;
-    k + 1
-}
-
-// The word s on the first k words: while the last of them is its sibling, both give way to what they share. Gives how many there are then.
-fn push(id: &mut [u64], k: usize, s: u64) -> usize
-    requires { k < length id.old }
-    ensures { (result ≤ k + 1) × (stack id.new result ≡ push s (stack id.old k))
-        × (drop (k + 1) id.new ≡ drop (k + 1) id.old) }
-{
-    let mut x = s;
-    let mut top = k;
-    while 0 < top {
-        let t = id[top - 1];
-        if !are_siblings(t, x) {
+    let mut rest = id;
+    while let [t, more @ ..] = rest {
+        if *t >= r || begins(*t, r) {
             break;
         }
-        x = t - 1;
-        top -= 1;
+        rest = more;
     }
-    id[top] = x;
+    rest
+}
+
+// The first of the id's words where it is below r; else r.
+fn root(id: &[u64], r: u64) -> u64
+    ensures { result ≡ root id.now r }
+{
+    match id {
+        [t, ..] if *t < r => *t,
+        _ => r,
+    }
+}
+
+// The word s on the stack of the first words: while the last of them is its sibling, both give way to what they share. Gives how many there are then.
+// stays: words and a count, here and below: tried, and a struct of both is no plainer: `reduce` and `lift` build it, take it apart, and show its buffer the same
+fn push(words: &mut [u64], count: usize, s: u64) -> usize
+    requires { count < length words.old }
+    ensures { (result ≤ count + 1) × (stack words.new result ≡ push s (stack words.old count))
+        × (drop (count + 1) words.new ≡ drop (count + 1) words.old) }
+{
+    let mut x = s;
+    let mut below = &words[..count];
+    while let [under @ .., t] = below {
+        if !are_siblings(*t, x) {
+            break;
+        }
+        x = *t - 1;
+        below = under;
+    }
+    let top = below.len();
+    words[top] = x;
     top + 1
 }
 
-// Zeros in a part of the buffer.
-fn clear(out: &mut [u64], from: usize, to: usize)
-    requires { (from ≤ to) × (to ≤ length out.old) }
-    ensures { out.new ≡ sets out.old from (replicate (to - from) 0) }
+// The word x on the stack of the first words, unless it is the last of them. Gives how many there are then.
+fn push_once(words: &mut [u64], count: usize, x: u64) -> usize
+    requires { count < length words.old }
+    ensures { (result ≤ count + 1) × (stack words.new result ≡ once_on x (stack words.old count))
+        × (drop (count + 1) words.new ≡ drop (count + 1) words.old) }
 {
-    let mut i = from;
-    while i < to {
-        out[i] = 0;
-        i += 1;
+    if words[..count].last() == Some(&x) {
+        return count;
     }
-}
-
-// A word at a place of the buffer, or nothing. Gives the place behind it.
-fn put(out: &mut [u64], at: usize, yes: bool, x: u64) -> usize
-    requires { at < length out.old }
-    ensures { (result ≤ at + 1) × (result ≡ at + length (opt yes x)) × (out.new ≡ sets out.old at (opt yes x)) }
-{
-    if yes {
-        out[at] = x;
-        return at + 1;
-    }
-    at
-}
-
-// The words of m from one on, from a place of the buffer on. Gives the place behind them.
-fn copy(out: &mut [u64], at: usize, m: &[u64], from: usize) -> usize
-    requires { (from ≤ length m.now) × (at + length (drop from m.now) ≤ length out.old) }
-    ensures { (result ≡ at + length (drop from m.now)) × (out.new ≡ sets out.old at (drop from m.now)) }
-{
-    let mut k = at;
-    let mut i = from;
-    while i < m.len() {
-        out[k] = m[i];
-        k += 1;
-        i += 1;
-    }
-    k
+    words[count] = x;
+    count + 1
 }

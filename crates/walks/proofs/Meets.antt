@@ -1,27 +1,27 @@
 -- What the walks tell of stored stamps, over any limits: the words that a lawful stamp's record counts are words of strings in rising order, so
 -- what the walks answer is what the rules do. Assumes nothing.
-use Rattle.laws.proofs.Library.{◌≡◌, refl, sym, ap, ap₂, ◌∙◌, Bool, true, ◌||◌, List, [], ◌∷◌, map, inl, inr, ℕ, zero, suc, ◌-◌, ◌≤◌, arith, le-leb, leb}
-use Rattle.laws.proofs.Library.{eq-eqb, length, get_or, replicate}
+use Rattle.laws.proofs.Library.{◌≡◌, refl, sym, ap, ap₂, ◌∙◌, Bool, true, false, cond, ◌||◌, List, [], ◌∷◌, map, inl, inr, ℕ, zero, suc, ◌-◌, ◌≤◌, arith, le-leb, leb}
+use Rattle.laws.proofs.Library.{eq-eqb, length, get_or, replicate, Result, Ok, Err}
 use Rattle.laws.proofs.Library.{length-map, take_at}
+use Rattle.std.specs.Prelude.{Option, None, Some}
 use Rattle.rules.specs.Limits.{Limits}
 use Rattle.rules.specs.Strings.{Str, value_from, aligned, word_of, str_of, is_word}
 use Rattle.rules.specs.Names.{Name, all, rising, below, uncovered, lacked}
 use Rattle.rules.specs.Stamps.{verdict, compare}
 use Rattle.rules.specs.Stored.{words_of, stored, strs_in, held, is_stored}
-use Rattle.rules.specs.Refusals.{first, overlap, unseen}
+use Rattle.rules.specs.Refusals.{Answer, and_then, first, overlap, unseen}
 use Rattle.rules.specs.Values.{told, meeting, compared, beyond, placed, stands_as, standing}
 use Rattle.rules.specs.declared.Words.{Words}
 use Rattle.rules.specs.declared.Record.{Record}
 use Rattle.rules.specs.declared.Refusal.TheVariants.{Overlap, Unseen}
-use Rattle.rules.specs.declared.Answer.{Answer}
-use Rattle.rules.specs.declared.Answer.TheVariants.{Done, Refused}
-use Rattle.rules.specs.declared.Compared.TheVariants.{Is}
+use Rattle.rules.specs.declared.Refusal.{Refusal}
 use Rattle.rules.specs.declared.Uncovered.{Uncovered}
+use Rattle.rules.specs.declared.Standing.{Standing}
 use Rattle.laws.proofs.Tests.{and_both}
 use Rattle.laws.proofs.Words.{str_word}
 use Rattle.laws.proofs.Lawful.{Short, lawful_parts}
 use Rattle.laws.proofs.Stored.{stored_lawful, stored_is, stored_not_unlawful}
-use Rattle.walks.specs.Walks.{front, strs, uncovered_walk, string_at, overlap_walk, unknown_in, meet_walk, judged_by, stand_after, compare_walk}
+use Rattle.walks.specs.Walks.{front, strs, uncovered_walk, string_at, uncovered_in, overlap_walk, unknown_in, meet_walk, judged_by, compare_walk}
 use Rattle.walks.proofs.Steps.{below_least}
 use Rattle.walks.proofs.Tells.{below_walk_lem, uncovered_walk_lem, overlap_walk_lem, unknown_in_lem}
 
@@ -90,6 +90,10 @@ module _ (L : Limits) (small : L.digits ≤ 58) where
     below_fronts =
         sym (below_least (front m) (front n)) ∙ below_walk_lem L.digits small (front m) (front n) c.words d.words c.rises d.rises
 
+    found_fronts : uncovered_in (front m) (front n) ≡ cond (below (strs_in m) (strs_in n)) None (Some (beyond (strs_in m) (strs_in n)))
+    unfolding uncovered_in
+    found_fronts = ap₂ (λ (b : Bool) (x : Uncovered). cond b None (Some x)) below_fronts beyond_fronts
+
   module _ (a b : Record) (h : is_stored L a ≡ true) (k : is_stored L b ≡ true) where
     overlap_fronts : overlap_walk (front a.id) (front b.id) ≡ overlap (held a) (held b)
     unfolding overlap held strs_in
@@ -116,23 +120,27 @@ module _ (L : Limits) (small : L.digits ≤ 58) where
         ap₂ (λ (x y : Bool). first ((x, Overlap) ∷ (y, Unseen) ∷ [])) overlap_fronts unseen_fronts
         ∙ sym (rw (stored_not_unlawful L a h, stored_not_unlawful L b k))
 
-    judged_fronts : judged_by (front a.update) (uncovered_walk (front a.update) (front b.update)) (front b.update)
-        (uncovered_walk (front b.update) (front a.update)) ≡ stands_as (Is (compare (held a) (held b))) (held a).update (held b).update
-    unfolding judged_by compare held
+    judged_fronts : Ok (judged_by (uncovered_in (front a.update) (front b.update)) (uncovered_in (front b.update) (front a.update)))
+        ≡ stands_as (Ok (compare (held a) (held b))) (held a).update (held b).update
+    unfolding compare held
     judged_fronts =
         let u = update_counted a h in
         let v = update_counted b k in
-        ap₂ (λ (x y : Bool). placed (Is (verdict x y)) (string_at (front a.update) (uncovered_walk (front a.update) (front b.update)))
-        (string_at (front b.update) (uncovered_walk (front b.update) (front a.update))))
-        (below_fronts a.update b.update u v) (below_fronts b.update a.update v u)
-        ∙ ap₂ (λ (x y : Uncovered). placed (Is (compare (held a) (held b))) x y)
-        (beyond_fronts a.update b.update u v) (beyond_fronts b.update a.update v u)
+        ap₂ (λ (x y : Option Uncovered). Ok (judged_by x y)) (found_fronts a.update b.update u v) (found_fronts b.update a.update v u)
+        ∙ by (below (strs_in a.update) (strs_in b.update)) (below (strs_in b.update) (strs_in a.update))
+      where
+        by : (x y : Bool) → Ok (judged_by (cond x None (Some (beyond (strs_in a.update) (strs_in b.update)))) (cond y None (Some (beyond (strs_in b.update) (strs_in a.update)))))
+            ≡ placed (Ok (verdict x y)) (beyond (strs_in a.update) (strs_in b.update)) (beyond (strs_in b.update) (strs_in a.update))
+        by true true = refl
+        by true false = refl
+        by false true = refl
+        by false false = refl
 
     pub compare_walk_lem : compare_walk (front a.update) (front a.id) (front b.update) (front b.id) ≡ standing L a b
     unfolding compare_walk compared standing
-    compare_walk_lem = ap₂ stand_after meet_walk_lem judged_fronts ∙ after (first (meeting L a b []))
+    compare_walk_lem = ap₂ (λ (x : Answer) (s : Result Standing Refusal). and_then x (λ y. s)) meet_walk_lem judged_fronts ∙ after (first (meeting L a b []))
       where
-        after : (x : Answer) → stand_after x (stands_as (Is (compare (held a) (held b))) (held a).update (held b).update)
+        after : (x : Answer) → and_then x (λ y. stands_as (Ok (compare (held a) (held b))) (held a).update (held b).update)
             ≡ stands_as (told x (compare (held a) (held b))) (held a).update (held b).update
-        after Done = refl
-        after (Refused r) = refl
+        after (Ok x) = refl
+        after (Err r) = refl

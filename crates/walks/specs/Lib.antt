@@ -1,3 +1,2 @@
--- What the contracts cite: one walk over the words of names. Inner is for a private function only.
+-- What the contracts cite: one walk over the words of names.
 pub mod Walks
-pub mod Inner

@@ -1,18 +1,14 @@
 -- Names as words, walked together: each string of the first is held against one string of the other, and no string is passed twice. The laws
 -- of `Tells` say that on words of strings in rising order these are the rules' own questions, those of `Meets` that on lawful stamps the
 -- answers are the rules' own.
-use Rattle.std.specs.Prelude.{Bool, true, false, cond, not, ◌&&◌, ◌||◌, List, [], ◌∷◌, map, ℕ, zero, suc, eqb, leb, ltb, length, take, drop, get_or}
+use Rattle.std.specs.Prelude.{Bool, true, false, cond, not, ◌&&◌, ◌||◌, List, [], ◌∷◌, map, ℕ, zero, suc, eqb, leb, ltb, length, take, drop, get_or, Option, Some, None, Result, Ok}
 use Rattle.rules.specs.Limits.{narrow}
 use Rattle.rules.specs.Strings.{siblings, str_of}
 use Rattle.rules.specs.Names.{Name, any}
-use Rattle.rules.specs.Stamps.{verdict}
-use Rattle.rules.specs.Refusals.{first}
-use Rattle.rules.specs.Values.{placed}
+use Rattle.rules.specs.Refusals.{Answer, and_then, first}
 use Rattle.rules.specs.declared.Words.{Words}
 use Rattle.rules.specs.declared.Refusal.TheVariants.{Overlap, Unseen}
-use Rattle.rules.specs.declared.Answer.{Answer}
-use Rattle.rules.specs.declared.Answer.TheVariants.{Done, Refused}
-use Rattle.rules.specs.declared.Compared.TheVariants.{Is}
+use Rattle.rules.specs.declared.Refusal.{Refusal}
 use Rattle.rules.specs.declared.Uncovered.{Uncovered}
 use Rattle.rules.specs.declared.Standing.{Standing}
 use Rattle.strings.specs.Words.{begins}
@@ -48,6 +44,10 @@ uncovered_walk (s ∷ m) n = cond (heads s (at_least s n)) (suc (uncovered_walk 
 -- the string of m at a place
 abbrev pub string_at : List ℕ → ℕ → Uncovered
 string_at m p = record { place = p; word = get_or m p 0 }
+
+-- that string, where there is one
+unfoldable pub uncovered_in : List ℕ → List ℕ → Option Uncovered
+uncovered_in m n = cond (leb (length m) (uncovered_walk m n)) None (Some (string_at m (uncovered_walk m n)))
 
 -- some string of u is so in i, and is not in v: only then is v walked
 unfoldable pub unknown_walk : List ℕ → List ℕ → List ℕ → Bool
@@ -85,14 +85,13 @@ unknown_in u i v = unknown_walk (drop (uncovered_walk u v) u) i v
 unfoldable pub meet_walk : List ℕ → List ℕ → List ℕ → List ℕ → Answer
 meet_walk u i v j = first ((overlap_walk i j, Overlap) ∷ (unknown_in u j v || unknown_in v i u, Unseen) ∷ [])
 
--- how u stands to v, where p and q are the places of their first uncovered strings
-unfoldable pub judged_by : List ℕ → ℕ → List ℕ → ℕ → Standing
-judged_by u p v q = placed (Is (verdict (leb (length u) p) (leb (length v) q))) (string_at u p) (string_at v q)
-
-abbrev pub stand_after : Answer → Standing → Standing
-stand_after Done s = s
-stand_after (Refused r) s = Standing.Refused r
+-- how an update stands to another, by the first uncovered string of each
+abbrev pub judged_by : Option Uncovered → Option Uncovered → Standing
+judged_by None None = Standing.Equal
+judged_by None (Some y) = Standing.Obsolete y
+judged_by (Some x) None = Standing.Newer x
+judged_by (Some x) (Some y) = Standing.Conflict x y
 
 -- how the first stands to the second, where they are not refused
-unfoldable pub compare_walk : List ℕ → List ℕ → List ℕ → List ℕ → Standing
-compare_walk u i v j = stand_after (meet_walk u i v j) (judged_by u (uncovered_walk u v) v (uncovered_walk v u))
+unfoldable pub compare_walk : List ℕ → List ℕ → List ℕ → List ℕ → Result Standing Refusal
+compare_walk u i v j = and_then (meet_walk u i v j) (λ x. Ok (judged_by (uncovered_in u v) (uncovered_in v u)))

@@ -2,94 +2,87 @@
 // walk. And of the words of two stamps, each of an update and an id: what they are refused for where they meet, and how they stand.
 #![tactic(auto)]
 
-ghost use Rattle.std.specs.Prelude.{◌≡◌, ◌≤◌, length, drop};
-ghost use Rattle.walks.specs.Walks.{at_least, below_walk, uncovered_walk, overlap_walk, unknown_walk, has_twins, is_long, meet_walk, compare_walk};
+ghost use Rattle.std.specs.Prelude.{◌≡◌, cond};
+ghost use Rattle.rules.specs.Refusals.{and_then};
+ghost use Rattle.rules.specs.declared.Refusal.TheVariants.{Unseen};
+ghost use Rattle.walks.specs.Walks.{at_least, below_walk, uncovered_in, overlap_walk, unknown_walk, unknown_in, has_twins, is_long, meet_walk, compare_walk};
 ghost use Rattle.walks.specs.Walks.{judged_by};
-ghost use Rattle.walks.specs.Inner.{LookedAt};
-ghost use Rattle.rules.specs.declared.Answer.TheVariants.{Refused};
 
-use rules::{Answer, Refusal, Standing, Uncovered};
+use rules::{Refusal, StampWords, Standing, Uncovered};
+use std::slice;
 use strings::{DIGITS, are_siblings, begins};
 
-// What two stamps are refused for, or the places of their first uncovered strings.
-#[derive(Drop)]
-struct Looked {
-    answer: Answer,
-    first: usize,
-    second: usize,
-}
-
-// What two lawful stamps that meet are refused for: 8, then 9.
-pub fn meet<'a>(u: &'a [u64], i: &'a [u64], v: &'a [u64], j: &'a [u64]) -> Answer
-    ensures { result ≡ meet_walk u.now i.now v.now j.now }
+// What two lawful stamps are refused for where they meet: 8, then 9.
+#[tactic(auto, unfolding(crate::specs::Walks::compare_walk))]
+pub fn meet<'a>(a: StampWords<'a>, b: StampWords<'a>) -> Result<(), Refusal>
+    ensures { result ≡ meet_walk a.entry.update.now a.entry.id.now b.entry.update.now b.entry.id.now }
 {
-    let l = look(u, i, v, j);
-    l.answer
+    compare(a, b)?;
+    Ok(())
 }
 
 // How the first stands to the second, or what the two are refused for.
-pub fn compare<'a>(u: &'a [u64], i: &'a [u64], v: &'a [u64], j: &'a [u64]) -> Standing
-    ensures { result ≡ compare_walk u.now i.now v.now j.now }
+#[tactic(auto, unfolding(crate::specs::Walks::compare_walk, crate::specs::Walks::meet_walk, rules::specs::Refusals::first))]
+pub fn compare<'a>(a: StampWords<'a>, b: StampWords<'a>) -> Result<Standing, Refusal>
+    ensures { result ≡ compare_walk a.entry.update.now a.entry.id.now b.entry.update.now b.entry.id.now }
 {
-    let l = look(u, i, v, j);
-    let a = l.answer;
-    match a {
-        Answer::Refused(r) => Standing::Refused(r),
-        Answer::Done => judged(u, l.first, v, l.second),
+    if is_overlapping(a.id, b.id) {
+        return Err(Refusal::Overlap);
     }
+    let first = beyond(a, b)?;
+    let second = beyond(b, a)?;
+    Ok(judged(first, second))
 }
 
 // Whether each string of m is a prefix of some string of n.
+#[tactic(auto, using(crate::proofs::Steps::finding))]
 pub fn is_below(m: &[u64], n: &[u64]) -> bool
     ensures { result ≡ below_walk m.now n.now }
 {
-    uncovered(m, n) == m.len()
+    uncovered(m, n).is_none()
 }
 
-// The place of the first string of m that no string of n extends; as many as m has where there is none.
-pub fn uncovered(m: &[u64], n: &[u64]) -> usize
-    ensures { result ≡ uncovered_walk m.now n.now }
+// The first string of m that no string of n extends.
+#[tactic(auto, using(crate::proofs::Steps::uncovering))]
+pub fn uncovered(m: &[u64], n: &[u64]) -> Option<Uncovered>
+    ensures { result ≡ uncovered_in m.now n.now }
 {
-    let mut i = 0;
-    let mut j = 0;
-    'each: while i < m.len() {
-        let s = m[i];
+    let mut first = None;
+    let mut rest = n;
+    // stays: nested loops over two names, left by a label at the first uncovered string, are a rule of the project.
+    'each: for (place, s) in m.iter().enumerate() {
         loop {
-            if n.len() <= j {
-                break 'each;
+            match rest {
+                [t, more @ ..] if t < s => rest = more,
+                [t, ..] if begins(*s, *t) => break,
+                _ => {
+                    first = Some(Uncovered { place, word: *s });
+                    break 'each;
+                }
             }
-            if s <= n[j] {
-                break;
-            }
-            j += 1;
         }
-        if !begins(s, n[j]) {
-            break 'each;
-        }
-        i += 1;
     }
-    i
+    first
 }
 
 // Whether a string of one is a prefix of a string of the other: one merge of both, where the lower word is held against the other and passed.
+#[tactic(auto, using(crate::proofs::Steps::overlapping))]
 pub fn is_overlapping(m: &[u64], n: &[u64]) -> bool
     ensures { result ≡ overlap_walk m.now n.now }
 {
-    let mut i = 0;
-    let mut j = 0;
-    while i < m.len() && j < n.len() {
-        let s = m[i];
-        let t = n[j];
+    let mut ours = m;
+    let mut theirs = n;
+    while let ([s, more @ ..], [t, others @ ..]) = (ours, theirs) {
         if s < t {
-            if begins(s, t) {
+            if begins(*s, *t) {
                 return true;
             }
-            i += 1;
+            ours = more;
         } else {
-            if begins(t, s) {
+            if begins(*t, *s) {
                 return true;
             }
-            j += 1;
+            theirs = others;
         }
     }
     false
@@ -99,126 +92,74 @@ pub fn is_overlapping(m: &[u64], n: &[u64]) -> bool
 pub fn has_twins(n: &[u64]) -> bool
     ensures { result ≡ has_twins n.now }
 {
-    let mut i = 1;
-    while i < n.len() {
-        if are_siblings(n[i - 1], n[i]) {
-            return true;
-        }
-        i += 1;
-    }
-    false
+    n.array_windows::<2>().any(|[s, t]| are_siblings(*s, *t))
 }
 
 // Whether some string has as many digits as a string may have.
 pub fn is_long(n: &[u64]) -> bool
     ensures { result ≡ is_long n.now }
 {
-    let mut i = 0;
-    while i < n.len() {
-        if n[i] % 64 == DIGITS {
-            return true;
-        }
-        i += 1;
-    }
-    false
+    n.iter().any(|w| w % 64 == DIGITS)
 }
 
-// What the two are refused for; where they are not, the places of their first uncovered strings. 9 is asked from there on.
-fn look<'a>(u: &'a [u64], i: &'a [u64], v: &'a [u64], j: &'a [u64]) -> Looked
-    ensures { LookedAt u.now i.now v.now j.now result }
+// What a has beyond b: the first uncovered string of its update. 9 is asked from there on.
+#[tactic(auto, using(crate::proofs::Steps::finding))]
+fn beyond<'a>(a: StampWords<'a>, b: StampWords<'a>) -> Result<Option<Uncovered>, Refusal>
+    ensures { result
+        ≡ cond (unknown_in a.entry.update.now b.entry.id.now b.entry.update.now) (Err Unseen)
+        (Ok (uncovered_in a.entry.update.now b.entry.update.now)) }
 {
-    if is_overlapping(i, j) {
-        return not_looked(Refusal::Overlap);
-    }
-    let p = uncovered(u, v);
-    if is_unknown(&u[p..], j, v) {
-        return not_looked(Refusal::Unseen);
-    }
-    let q = uncovered(v, u);
-    if is_unknown(&v[q..], i, u) {
-        return not_looked(Refusal::Unseen);
-    }
-    Looked {
-        answer: Answer::Done,
-        first: p,
-        second: q,
+    let first = uncovered(a.update, b.update);
+    match first {
+        Some(x) if is_unknown(&a.update[x.place..], b) => Err(Refusal::Unseen),
+        _ => Ok(first),
     }
 }
 
-// A refusal, without places.
-fn not_looked(r: Refusal) -> Looked
-    ensures { result.answer ≡ Refused r }
+// Whether some string of u is below the other's id and not below the other's update.
+#[tactic(auto, using(crate::proofs::Steps::asking))]
+fn is_unknown<'a>(u: &'a [u64], other: StampWords<'a>) -> bool
+    ensures { result ≡ unknown_walk u.now other.entry.id.now other.entry.update.now }
 {
-    Looked {
-        answer: Answer::Refused(r),
-        first: 0,
-        second: 0,
-    }
-}
-
-// Whether some string of the update u is below the id i and not below the update v.
-fn is_unknown(u: &[u64], i: &[u64], v: &[u64]) -> bool
-    ensures { result ≡ unknown_walk u.now i.now v.now }
-{
-    let mut a = 0;
-    let mut b = 0;
-    let mut c = 0;
-    while a < u.len() {
-        let r = u[a];
-        b = reach(i, b, r);
-        if i.len() <= b {
+    let mut ids = other.id;
+    let mut updates = other.update;
+    for r in u {
+        ids = reach(ids, *r);
+        let [t, ..] = ids else {
             return false;
-        }
-        if begins(r, i[b]) {
-            c = reach(v, c, r);
-            if !is_below(&u[a..a + 1], &v[c..]) {
+        };
+        if begins(*r, *t) {
+            updates = reach(updates, *r);
+            if !is_below(slice::from_ref(r), updates) {
                 return true;
             }
         }
-        a += 1;
     }
     false
 }
 
-// How an update stands to another: p and q are the places of their first uncovered strings.
-fn judged(u: &[u64], p: usize, v: &[u64], q: usize) -> Standing
-    ensures { result ≡ judged_by u.now p v.now q }
+// How an update stands to another, by the first uncovered string of each.
+fn judged(first: Option<Uncovered>, second: Option<Uncovered>) -> Standing
+    ensures { result ≡ judged_by first second }
 {
-    if p < u.len() {
-        let first = Uncovered {
-            place: p,
-            word: u[p],
-        };
-        if q < v.len() {
-            let second = Uncovered {
-                place: q,
-                word: v[q],
-            };
-            return Standing::Conflict(first, second);
-        }
-        return Standing::Newer(first);
+    match (first, second) {
+        (None, None) => Standing::Equal,
+        (None, Some(y)) => Standing::Obsolete(y),
+        (Some(x), None) => Standing::Newer(x),
+        (Some(x), Some(y)) => Standing::Conflict(x, y),
     }
-    if q < v.len() {
-        let second = Uncovered {
-            place: q,
-            word: v[q],
-        };
-        return Standing::Obsolete(second);
-    }
-    Standing::Equal
 }
 
-// The first place from `from` on whose word is not below s.
-fn reach(n: &[u64], from: usize, s: u64) -> usize
-    ensures { (drop result n.now ≡ at_least s (drop from n.now))
-        × (from ≤ length n.now → result ≤ length n.now) }
+// The rest of n from the first word on that is not below s.
+#[tactic(auto, using(crate::proofs::Steps::passing))]
+fn reach(n: &[u64], s: u64) -> &[u64]
+    ensures { result.now ≡ at_least s n.now }
 {
-    let mut j = from;
-    while j < n.len() {
-        if s <= n[j] {
-            return j;
-        }
-        j += 1;
+    let mut rest = n;
+    while let [t, more @ ..] = rest
+        && *t < s
+    {
+        rest = more;
     }
-    j
+    rest
 }

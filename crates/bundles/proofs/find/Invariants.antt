@@ -1,10 +1,8 @@
-use Rattle.laws.proofs.Library.{◌≡◌, ◌-◌, length, drop}
+-- What the loop of `bundles::find` keeps: what is sought from `at` on is what was sought from the start.
+use Rattle.laws.proofs.Library.{◌≡◌, ◌-◌, drop}
 use Rattle.rules.specs.Limits.{narrow}
 use Rattle.rules.specs.Bundles.{entry_in, entry}
 use Rattle.bundles.proofs.find.Given as goal
 
-abbrev pub invariant-loop-to : goal.invariant-loop-to
-invariant-loop-to l = entry_in narrow l.left (drop l.at l.b) ≡ entry narrow l.k l.b
-
-abbrev pub decreases-loop-to : goal.decreases-loop-to
-decreases-loop-to l = length l.b - l.at
+abbrev pub invariant-loop : goal.invariant-loop
+invariant-loop l = entry_in narrow (l.k - l.counter) (drop l.at l.b) ≡ entry narrow l.k l.b

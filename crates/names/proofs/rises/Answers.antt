@@ -1,76 +1,49 @@
--- `rises` says whether the words are those of strings, and these rise: each is compared with the one before, which is enough (`chain_is`). Assumes nothing.
-use Rattle.laws.proofs.Library.{◌≡◌, refl, sym, ap, ap₂, ◌∙◌, Bool, ◌&&◌, and-false, List, ◌∷◌, arith, ℕ, ◌+◌, ◌≤◌, ◌<◌}
-use Rattle.laws.proofs.Library.{length, get_or, drop}
-use Rattle.rules.specs.Strings.{str_of, is_word}
-use Rattle.rules.specs.Names.{all, rising}
-use Rattle.rules.specs.Stored.{strs_in}
-use Rattle.names.proofs.Laws.{front, all_more, all_stop, all_end, front_cons, front_end, strs_cons, strs_end}
-use Rattle.names.proofs.Shape.{lent, chain, chain_start, chain_more, chain_stop, chain_end}
-use Rattle.std.proofs.Common.{rules}
+-- `rises` meets its contract: each word is compared with the one before, which is enough (`rise_first`). Assumes nothing.
+use Rattle.laws.proofs.Library.{◌≡◌, refl, sym, ap, ◌∙◌, Bool, true, ◌&&◌, List, [], ◌∷◌, ℕ, ◌+◌, ◌-◌, ◌≤◌, ◌<◌, arith, length, get_or, take, drop, take_all}
+use Rattle.rules.specs.Strings.{less, str_of, is_word}
+use Rattle.strings.specs.Words.{precedes}
+use Rattle.strings.proofs.Fronts.{begins_less}
+use Rattle.names.proofs.Shape.{rise, rise_from, rise_first, rise_turn, rise_end}
+use Rattle.names.proofs.rises.Goals.{then-not-is_word-2-via-then-not-is_word-2, then-not-is_word-2-via-else-not-is_word-2+then-not-precedes}
 use Rattle.names.proofs.rises.Goals as goal
 
--- the word at i, and the string that it tells, stand before the others
-module _ (n : ℕ) (w : List ℕ) (has : n ≤ length w) (i : ℕ) where
-  word_cons : i < n → drop i (front (lent n w)) ≡ get_or w i 0 ∷ drop (i + 1) (front (lent n w))
-  word_cons l = front_cons (lent n w) (length w) refl i (omega arith)
+-- the words behind the first
+abbrev others : List ℕ → List ℕ
+others w = take (length w - 1) (drop 1 w)
 
-  str_cons : i < n → drop i (strs_in (lent n w)) ≡ str_of (get_or w i 0) ∷ drop (i + 1) (strs_in (lent n w))
-  str_cons l = strs_cons (lent n w) (length w) refl i (omega arith)
+begins : (w : List ℕ) → 1 ≤ length w → {b : Bool} → b ≡ is_word 24 (get_or w 0 0) → (b && rise_from 24 (get_or w 0 0) (others w)) ≡ rise 24 w
+begins w h e = ap (λ (x : Bool). x && rise_from 24 (get_or w 0 0) (others w)) e ∙ sym (rise_first 24 (split w h))
+  where
+    split : (w : List ℕ) → 1 ≤ length w → w ≡ get_or w 0 0 ∷ others w
+    split [] h = absurd (omega arith)
+    split (x ∷ l) h = ap (λ (m : List ℕ). x ∷ m) (sym (take_all (length (x ∷ l) - 1) l (omega arith)))
 
 pub returns-then-not-is_word : goal.returns-then-not-is_word
-returns-then-not-is_word c =
-    let w = c.is_word in
-    sym
-    (ap (λ (b : Bool). b && rising (strs_in (lent c.args.c c.args.w.now)))
-    (all_stop (is_word 24) (word_cons c.args.c c.args.w.now c.requires.1 0 (omega arith)) (sym w.ensures ∙ c.if-not-is_word.true)))
+returns-then-not-is_word c = begins c.args.w.now c.in-len1-up.len_at_least c.if-not-is_word.ensures
 
-pub loop-i-init : goal.loop-i-init
-loop-i-init c =
-    let w = c.is_word in
-    let is = sym w.ensures ∙ c.if-not-is_word.false in
-    (search rules, is, ap₂ ◌&&◌ (sym (all_more (is_word 24) (word_cons c.args.c c.args.w.now c.requires.1 0 (omega arith)) is)) (chain_start (str_cons c.args.c c.args.w.now c.requires.1 0 (omega arith))))
+pub loop-s-init : goal.loop-s-init
+loop-s-init c = (sym c.if-not-is_word.ensures, begins c.args.w.now c.in-len1-up.len_at_least c.if-not-is_word.ensures)
+
+-- the words of strings in order are strings in order
+before : (a b : ℕ) {y : Bool} → is_word 24 a ≡ true → is_word 24 b ≡ true → y ≡ precedes a b → y ≡ less (str_of a) (str_of b)
+before a b h k e = e ∙ begins_less 24 (omega arith) a b h k
+
+-- the next of the others is the word s
+turn : (w : List ℕ) (i p s : ℕ) {x y : Bool} → i < length (others w) → rise_from 24 p (drop i (others w)) ≡ rise 24 w → s ≡ get_or (others w) i 0
+    → x ≡ is_word 24 s → y ≡ less (str_of p) (str_of s) → ((x && y) && rise_from 24 s (drop (i + 1) (others w))) ≡ rise 24 w
+turn w i p s h e k f g = rw (f, g, k) (sym (rise_turn 24 p i (others w) h) ∙ e)
 
 pub returns-then-not-is_word-2 : goal.returns-then-not-is_word-2
-returns-then-not-is_word-2 c =
-    let w = c.is_word-in-loop-i in
-    sym
-    (ap (λ (b : Bool). b && chain (str_of c.loop-i.prior) (drop c.loop-i.i (strs_in (lent c.args.c c.args.w.now))))
-    (all_stop (is_word 24) (word_cons c.args.c c.args.w.now c.requires.1 c.loop-i.i (omega arith)) (sym w.ensures ∙ c.if-not-is_word-2.true)))
-    ∙ c.loop-i.invariant.2
+returns-then-not-is_word-2 c = elim c.then-not-is_word-2.branch [
+  | then-not-is_word-2-via-then-not-is_word-2 w ↦ turn c.args.w.now c.loop-s.s-index c.loop-s.prior _ c.loop-s-test.true c.loop-s.invariant.1 refl w.if-not-is_word-2.ensures refl
+  | then-not-is_word-2-via-else-not-is_word-2+then-not-precedes w ↦
+      turn c.args.w.now c.loop-s.s-index c.loop-s.prior _ c.loop-s-test.true c.loop-s.invariant.1 refl w.if-not-is_word-2.ensures
+      (before c.loop-s.prior _ c.loop-s.invariant.0 (sym w.if-not-is_word-2.ensures) w.if-not-precedes.ensures)
+]
 
-pub ends_before-requires : goal.ends_before-requires
-ends_before-requires c =
-    let w = c.is_word-in-loop-i in
-    search (c.loop-i.invariant.1, sym w.ensures ∙ c.if-not-is_word-2.false)
-
-pub returns-then-not-ends_before : goal.returns-then-not-ends_before
-returns-then-not-ends_before c =
-    let b = c.ends_before in
-    let words = all (is_word 24) (drop c.loop-i.i (front (lent c.args.c c.args.w.now))) in
-    sym
-    (ap (λ (x : Bool). words && x)
-    (chain_stop (str_of c.loop-i.prior) (str_cons c.args.c c.args.w.now c.requires.1 c.loop-i.i (omega arith)) (sym b.ensures ∙ c.if-not-ends_before.true))
-    ∙ and-false words)
-    ∙ c.loop-i.invariant.2
-
-pub loop-i-preserved : goal.loop-i-preserved
-loop-i-preserved c =
-    let w = c.is_word-in-loop-i in
-    let b = c.ends_before in
-    let is = sym w.ensures ∙ c.if-not-is_word-2.false in (
-      search rules,
-      is,
-      sym
-          (ap₂ ◌&&◌ (all_more (is_word 24) (word_cons c.args.c c.args.w.now c.requires.1 c.loop-i.i (omega arith)) is)
-          (chain_more (str_of c.loop-i.prior) (str_cons c.args.c c.args.w.now c.requires.1 c.loop-i.i (omega arith)) (sym b.ensures ∙ c.if-not-ends_before.false)))
-          ∙ c.loop-i.invariant.2,
-    )
+pub loop-s-preserved : goal.loop-s-preserved
+loop-s-preserved c =
+    (sym c.if-not-is_word-2.ensures, turn c.args.w.now c.loop-s.s-index c.loop-s.prior _ c.loop-s-test.true c.loop-s.invariant.1 refl c.if-not-is_word-2.ensures (before c.loop-s.prior _ c.loop-s.invariant.0 (sym c.if-not-is_word-2.ensures) c.if-not-precedes.ensures))
 
 pub returns : goal.returns
-returns c =
-    let n = lent c.args.c c.args.w.now in
-    let room = length c.args.w.now in
-    sym
-    (ap₂ ◌&&◌ (all_end (is_word 24) (front_end n room refl c.loop-i.i (omega arith)))
-    (chain_end (str_of c.loop-i.prior) (strs_end n room refl c.loop-i.i (omega arith))))
-    ∙ c.loop-i.invariant.2
+returns c = sym (rise_end 24 c.loop-s.prior c.loop-s.s-index (others c.args.w.now) (omega arith)) ∙ c.loop-s.invariant.1

@@ -1,11 +1,13 @@
-use Rattle.laws.proofs.Library.{◌≡◌, ◌-◌, ◌/◌, ◌≤◌, length}
-use Rattle.printing.proofs.Turns.{writes, commands_from}
+use Rattle.laws.proofs.Library.{◌≡◌, ◌≤◌, length, drop}
+use Rattle.printing.proofs.Turns.{writes}
 use Rattle.printing.proofs.print.Given as goal
 
-abbrev pub invariant-loop-k : goal.invariant-loop-k
-invariant-loop-k l =
-    (l.count ≡ length l.commands / 3) × (l.k ≤ l.count) × (l.at ≤ length l.out) × (length l.out ≡ length l.initial.out)
-    × (writes (commands_from l.commands l.count l.k) l.out l.at l.k ≡ writes (commands_from l.commands l.count 0) l.initial.out 0 0)
-
-abbrev pub decreases-loop-k : goal.decreases-loop-k
-decreases-loop-k l = l.count - l.k
+-- the page is in the buffer that was lent, and the answers to come, written from here on, are what all are from the start
+abbrev pub invariant-loop-c : goal.invariant-loop-c
+invariant-loop-c l =
+    record {
+      room : l.page.len ≤ length l.page.out.now;
+      lent : l.page.out.ghost_name ≡ l.initial.page.out.ghost_name;
+      few : l.count ≤ l.c-index;
+      whole : writes (drop l.c-index l.commands) l.page.out.now l.page.len l.count ≡ writes l.commands l.initial.page.out.now 0 0;
+    }

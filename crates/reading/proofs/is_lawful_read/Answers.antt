@@ -25,9 +25,9 @@ judged u i under alone n eb et =
 
 pub returns-then-is_below : goal.returns-then-is_below
 returns-then-is_below c =
-    judged c.args.u.now c.args.i.now true (not c.has_twins.result) c.requires (sym c.if-is_below.true ∙ c.is_below.ensures)
+    judged c.args.n.update.now c.args.n.id.now true (not c.has_twins.result) c.requires (sym c.if-is_below.true ∙ c.is_below.ensures)
     (ap not c.has_twins.ensures)
 
-pub returns : goal.returns
-returns c =
-    judged c.args.u.now c.args.i.now false _ c.requires (sym c.if-is_below.false ∙ c.is_below.ensures) refl
+pub returns-else-is_below : goal.returns-else-is_below
+returns-else-is_below c =
+    c.if-is_below.false ∙ judged c.args.n.update.now c.args.n.id.now false _ c.requires (sym c.if-is_below.false ∙ c.is_below.ensures) refl

@@ -1,19 +1,20 @@
 -- `reading::names_in` meets its contract: each test of the code is the one that the reader of bits makes there. Assumes nothing.
-use Rattle.laws.proofs.Library.{◌≡◌, refl, sym, ap, ◌∙◌, Bool, true, false, cond, List, Option, none, some, ℕ, ◌*◌, ◌≤◌, ◌<◌, arith, rules, not-true}
-use Rattle.laws.proofs.Library.{not-false, lit≤, length, take, drop, replicate, length-append, length-drop, length-replicate, take_at}
+use Rattle.laws.proofs.Library.{◌≡◌, refl, sym, ap, ◌∙◌, Bool, true, false, cond, List, ◌++◌, Option, none, some, ℕ, ◌*◌, ◌<◌, arith, rules}
+use Rattle.laws.proofs.Library.{lit≤, length, take, take_at}
+use Rattle.std.specs.Bool.{then_some}
 use Rattle.rules.specs.Limits.{narrow}
-use Rattle.rules.specs.Names.{Name, all}
+use Rattle.rules.specs.Names.{Name}
 use Rattle.rules.specs.Stamps.{Stamp}
-use Rattle.rules.specs.Packed.{bits_of, over, take_name, take_stamp, is_filling, unpacked}
+use Rattle.rules.specs.Packed.{bits_of, take_name, take_stamp, is_filling, unpacked}
 use Rattle.layout.proofs.Bytes.{are_bytes}
 use Rattle.layout.proofs.RoundTrip.{packed_unpacked, unpacked_names}
 use Rattle.walks.specs.Walks.{strs}
-use Rattle.reading.specs.declared.OneName.{OneName}
 use Rattle.layout.specs.Words.{stamp_of}
-use Rattle.reading.specs.Reading.{stream, NameAt, NamesIn}
+use Rattle.reading.specs.Reading.{stream, rest, NameRead, NamesRead}
 use Rattle.layout.proofs.Sizes.{names_length, name_most}
 use Rattle.layout.proofs.Values.{bytes_are}
 use Rattle.reading.proofs.Streams.{bits_take}
+use Rattle.std.specs.declared.option.Option.TheVariants.{None, Some}
 use Rattle.reading.proofs.names_in.Goals as goal
 
 -- ---- the ways of a reader of a stamp
@@ -44,104 +45,58 @@ both : (b : List ℕ) (u i : Name) (rest end : List Bool) (full : Bool) → take
 unfolding unpacked take_stamp
 both b u i rest end full e f g = simp (e, f, sym g)
 
--- ---- the bytes behind which zeros stand
+-- behind the bytes of b others may stand
+copied_bits : (b x others : List ℕ) → x ≡ b → stream (length b * 8) (x ++ others) ≡ bits_of b
+copied_bits b x others e = bits_take (length b) (x ++ others) ∙ ap bits_of (take_at x others (length b) (ap length e) ∙ e)
 
-padded_length : (b : List ℕ) → length b ≤ 117 → length (over b (replicate 128 0)) ≡ 128
-padded_length b h = length-append b (drop (length b) (replicate 128 0)) ∙ omega (arith, length-drop (length b) (replicate {A = ℕ} 128 0), length-replicate {A = ℕ} 128 0)
+-- ---- what the names' answers tell
 
-padded_bits : (b p : List ℕ) → p ≡ over b (replicate 128 0) → stream (length b * 8) p ≡ bits_of b
-padded_bits b p e = ap (stream (length b * 8)) e ∙ bits_take (length b) (over b (replicate 128 0)) ∙ ap bits_of (take_at b (drop (length b) (replicate 128 0)) (length b) refl)
+none_read : (b us is : List ℕ) → unpacked narrow b ≡ none → NamesRead b None us is
+none_read b us is e = record { reads = e; update = tt; id = tt }
 
--- ---- what a name's answer tells
-
-module _ {b : List ℕ} {bits pos : ℕ} {r : OneName} {ws : List ℕ} (s : NameAt b bits pos r ws) where
-  name_found : r.ok ≡ true → take_name narrow (drop pos (stream bits b)) ≡ some (strs (take r.count ws), drop r.next (stream bits b))
-  name_found h = rw h at s.reads
-
-  name_missing : r.ok ≡ false → take_name narrow (drop pos (stream bits b)) ≡ none
-  name_missing h = rw h at s.reads
-
-refused : (b us is : List ℕ) → length us ≡ 16 → length is ≡ 16 → unpacked narrow b ≡ none → NamesIn b (record { ok = false; update = 0; id = 0 }) us is
-unfolding all
-refused b us is hu hi e =
-    record { reads = e; update_words = refl; id_words = refl; update_few = omega arith; id_few = omega arith; update_room = hu; id_room = hi }
-
--- p is b with zeros behind it
-module _ (b p us is : List ℕ) (m n : OneName) (e : p ≡ over b (replicate 128 0)) (u : NameAt p (length b * 8) 0 m us) where
+-- of p the bits that are there are those of b
+module _ (b p us : List ℕ) (e : stream (length b * 8) p ≡ bits_of b) where
   abbrev bits : ℕ
   bits = length b * 8
 
-  the_bits : stream bits p ≡ bits_of b
-  the_bits = padded_bits b p e
+  without_update : NameRead p bits 0 None us → unpacked narrow b ≡ none
+  without_update u = no_update b (ap (take_name narrow) (sym e) ∙ u.reads)
 
-  took_update : m.ok ≡ true → take_name narrow (bits_of b) ≡ some (strs (take m.count us), drop m.next (stream bits p))
-  took_update h = ap (take_name narrow) (sym the_bits) ∙ name_found u h
+  module _ (is : List ℕ) (m next : ℕ) (u : NameRead p bits 0 (Some (m, next)) us) where
+    took_update : take_name narrow (bits_of b) ≡ some (strs (take m us), rest p bits next)
+    took_update = ap (take_name narrow) (sym e) ∙ u.reads
 
-  without_update : m.ok ≡ false → unpacked narrow b ≡ none
-  without_update h = no_update b (ap (take_name narrow) (sym the_bits) ∙ name_missing u h)
+    without_id : NameRead p bits next None is → unpacked narrow b ≡ none
+    without_id i = no_id b (strs (take m us)) (rest p bits next) took_update i.reads
 
-  module _ (i : NameAt p bits m.next n is) (hm : m.ok ≡ true) where
-    without_id : n.ok ≡ false → unpacked narrow b ≡ none
-    without_id h = no_id b (strs (take m.count us)) (drop m.next (stream bits p)) (took_update hm) (name_missing i h)
+    module _ (n end : ℕ) (i : NameRead p bits next (Some (n, end)) is) where
+      with_both : (full : Bool) → full ≡ is_filling (rest p bits end) → unpacked narrow b ≡ cond full (some (stamp_of (take m us) (take n is))) none
+      with_both full g = both b (strs (take m us)) (strs (take n is)) (rest p bits next) (rest p bits end) full took_update i.reads g
 
-    with_both : (full : Bool) → n.ok ≡ true → full ≡ is_filling (drop n.next (stream bits p))
-        → unpacked narrow b ≡ cond full (some (stamp_of (take m.count us) (take n.count is))) none
-    with_both full h g =
-        both b (strs (take m.count us)) (strs (take n.count is)) (drop m.next (stream bits p)) (drop n.next (stream bits p)) full
-        (took_update hm) (name_found i h) g
-
-    read_both : n.ok ≡ true → true ≡ is_filling (drop n.next (stream bits p))
-        → NamesIn b (record { ok = true; update = m.count; id = n.count }) us is
-    read_both h g =
-        record {
-          reads = with_both true h g;
-          update_words = u.whole;
-          id_words = i.whole;
-          update_few = u.few;
-          id_few = i.few;
-          update_room = u.room;
-          id_room = i.room;
-        }
+      -- what the filling decides
+      all_read : (full : Bool) → full ≡ is_filling (rest p bits end) → NamesRead b (then_some full (record { update = m; id = n })) us is
+      all_read true g = record { reads = with_both true g; update = u.words; id = i.words }
+      all_read false g = none_read b us is (with_both false g)
 
 -- ---- the code
 
 pub returns-then-b-gt-BYTES : goal.returns-then-b-gt-BYTES
 returns-then-b-gt-BYTES c =
-    refused c.args.b.now c.args.u.now c.args.i.now (omega arith) (omega arith)
-    (too_long_lem c.args.b.now (bytes_are c.args.b.now (λ i. search rules)) (omega arith))
+    none_read c.args.b.now c.args.u.now c.args.i.now (too_long_lem c.args.b.now (bytes_are c.args.b.now (λ i. search rules)) (omega arith))
 
-pub name_in-m-requires : goal.name_in-m-requires
-name_in-m-requires c =
-    (omega arith, omega arith, ap length c.pad.ensures ∙ padded_length c.args.b.now (omega arith), c.requires.0)
+pub returns-in_err-update : goal.returns-in_err-update
+returns-in_err-update c =
+    let same = copied_bits c.args.b.now c.copy_from_slice.new.self _ c.copy_from_slice.ensures.after in
+    rw c.from_residual.ensures (none_read c.args.b.now _ c.args.i.now (without_update c.args.b.now _ _ same c.in_err-update.ensures))
 
-pub returns-then-not-m : goal.returns-then-not-m
-returns-then-not-m c =
-    refused c.args.b.now _ c.args.i.now c.name_in-m.ensures.room c.requires.1
-    (without_update c.args.b.now _ _ c.args.i.now c.name_in-m.result c.name_in-m.result c.pad.ensures c.name_in-m.ensures (not-true _ c.if-not-m.true))
-
-pub name_in-n-requires : goal.name_in-n-requires
-name_in-n-requires c =
-    (omega arith, c.name_in-m.ensures.inside, ap length c.pad.ensures ∙ padded_length c.args.b.now (omega arith), c.requires.1)
-
-pub returns-then-not-n : goal.returns-then-not-n
-returns-then-not-n c =
-    refused c.args.b.now _ _ c.name_in-m.ensures.room c.name_in-n.ensures.room
-    (without_id c.args.b.now _ _ _ c.name_in-m.result c.name_in-n.result c.pad.ensures c.name_in-m.ensures c.name_in-n.ensures
-    (not-false _ c.if-not-m.false) (not-true _ c.if-not-n.true))
-
-pub is_filling-requires : goal.is_filling-requires
-is_filling-requires c =
-    (omega arith, c.name_in-n.ensures.inside, ap length c.pad.ensures ∙ padded_length c.args.b.now (omega arith))
-
-pub returns-then-not-is_filling : goal.returns-then-not-is_filling
-returns-then-not-is_filling c =
-    refused c.args.b.now _ _ c.name_in-m.ensures.room c.name_in-n.ensures.room
-    (with_both c.args.b.now _ _ _ c.name_in-m.result c.name_in-n.result c.pad.ensures c.name_in-m.ensures c.name_in-n.ensures
-    (not-false _ c.if-not-m.false) false (not-false _ c.if-not-n.false)
-    (sym c.if-not-is_filling.true ∙ c.is_filling.ensures))
+pub returns-in_err-id : goal.returns-in_err-id
+returns-in_err-id c =
+    let same = copied_bits c.args.b.now c.copy_from_slice.new.self _ c.copy_from_slice.ensures.after in
+    rw c.from_residual-in_err-id.ensures
+    (none_read c.args.b.now _ _ (without_id c.args.b.now _ _ same _ c.in_ok-update.update _ c.in_ok-update.ensures c.in_err-id.ensures))
 
 pub returns : goal.returns
 returns c =
-    read_both c.args.b.now _ _ _ c.name_in-m.result c.name_in-n.result c.pad.ensures c.name_in-m.ensures c.name_in-n.ensures
-    (not-false _ c.if-not-m.false) (not-false _ c.if-not-n.false)
-    (sym c.if-not-is_filling.false ∙ c.is_filling.ensures)
+    let same = copied_bits c.args.b.now c.copy_from_slice.new.self _ c.copy_from_slice.ensures.after in
+    rw c.then_some.ensures
+    (all_read c.args.b.now _ _ same _ c.in_ok-update.update _ c.in_ok-update.ensures c.in_ok-id.id _ c.in_ok-id.ensures c.is_filling_at.result c.is_filling_at.ensures)

@@ -1,26 +1,27 @@
 -- `reading::read_in` meets its contract: the words that were read are those of the stamp that the bytes pack, and both names are names by the
 -- way they were read, so that the two questions that are left decide whether it is lawful. Assumes nothing.
-use Rattle.laws.proofs.Library.{◌≡◌, refl, sym, ap, ap₂, ◌∙◌, true, false, List, [], ◌∷◌, map, some, ℕ, ◌-◌, arith, not-true, not-false, lit≤}
-use Rattle.laws.proofs.Library.{length, take, replicate, length-map, length-take-le, take_at}
+use Rattle.laws.proofs.Library.{◌≡◌, refl, sym, ap, ap₂, ◌∙◌, true, false, Result, Ok, Err, List, [], ◌∷◌, ◌++◌, map, ℕ, ◌-◌, arith, lit≤}
+use Rattle.laws.proofs.Library.{length, take, drop, replicate, length-map, length-take-le, take_at}
 use Rattle.rules.specs.Limits.{narrow}
 use Rattle.rules.specs.Strings.{word_of, str_of, is_word}
 use Rattle.rules.specs.Names.{all}
 use Rattle.rules.specs.Stamps.{lawful}
-use Rattle.rules.specs.Stored.{words_of, stored, blank}
+use Rattle.rules.specs.Stored.{words_of, stored}
 use Rattle.rules.specs.Refusals.{first}
-use Rattle.rules.specs.Packed.{over, unpacked, read_as, read_stamp}
-use Rattle.rules.specs.declared.Given.{Given}
+use Rattle.rules.specs.Packed.{over, read_as, read_stamp}
 use Rattle.rules.specs.declared.Refusal.{Refusal}
 use Rattle.rules.specs.declared.Refusal.TheVariants.{Malformed, Unlawful}
-use Rattle.rules.specs.declared.Answer.TheVariants.{Done, Refused}
 use Rattle.laws.proofs.Tests.{and_left, and_right}
 use Rattle.layout.proofs.RoundTrip.{unpacked_names}
 use Rattle.walks.specs.Walks.{strs}
 use Rattle.strings.proofs.Order.{word_is}
-use Rattle.reading.specs.declared.Counts.{Counts}
-use Rattle.reading.specs.declared.TwoNames.{TwoNames}
+use Rattle.rules.specs.declared.Counts.{Counts}
+use Rattle.std.specs.declared.option.Option.TheVariants.{None, Some}
+use Rattle.std.specs.Option.{ok_or}
+use Rattle.std.proofs.Common.{Option}
+use Rattle.std.proofs.lemmas.Result.{err_from_is_err_and}
 use Rattle.layout.specs.Words.{stamp_of}
-use Rattle.reading.specs.Reading.{counts_of, lent_to, are_words, AreNames, NamesIn}
+use Rattle.reading.specs.Reading.{counts_of, update_in, id_in, lent_to, are_words, AreNames, NamesRead}
 use Rattle.reading.proofs.read_in.Goals as goal
 
 -- ---- words and their strings
@@ -41,109 +42,71 @@ lent_words ws out h =
 
 -- ---- what the bytes tell
 
-refused : (b : List ℕ) (why : Refusal) (r : Counts) (u i : List ℕ) → r ≡ record { answer = Refused why; update = 0; id = 0 }
-    → read_stamp narrow b ≡ record { answer = Refused why; stamp = blank narrow }
-    → (r ≡ counts_of (read_stamp narrow b)) × (u ≡ lent_to (read_stamp narrow b).stamp.update u) × (i ≡ lent_to (read_stamp narrow b).stamp.id i)
-unfolding counts_of lent_to blank stored words_of
-refused b why r u i e f =
-    (e ∙ sym (ap counts_of f), sym (ap (λ (g : Given). lent_to g.stamp.update u) f), sym (ap (λ (g : Given). lent_to g.stamp.id i) f))
+not_names : (b us is : List ℕ) (r : Option Counts) (why : Refusal) → NamesRead b r us is → ◌≡◌ {A = Result Counts Refusal} (Err why) (ok_or r Malformed)
+    → read_stamp narrow b ≡ Err why
+unfolding read_stamp
+not_names b us is None why n e = ap (read_as narrow) n.reads ∙ (let f : Malformed ≡ why = cc in ap Err f)
+not_names b us is (Some k) why n e = cc
 
-module _ {b : List ℕ} {r : TwoNames} {us is : List ℕ} (n : NamesIn b r us is) where
+refused : (b : List ℕ) (why : Refusal) (r : Result Counts Refusal) (u i : List ℕ) → r ≡ Err why → read_stamp narrow b ≡ Err why
+    → (r ≡ counts_of (read_stamp narrow b)) × (u ≡ update_in (read_stamp narrow b) u) × (i ≡ id_in (read_stamp narrow b) i)
+refused b why r u i e f = rw f (e, refl, refl)
+
+module _ {b us is : List ℕ} {k : Counts} (n : NamesRead b (Some k) us is) where
   abbrev u : List ℕ
-  u = take r.update us
+  u = take k.update us
 
   abbrev i : List ℕ
-  i = take r.id is
+  i = take k.id is
 
-  part_length : (r.update ≡ length u) × (r.id ≡ length i)
-  part_length =
-      (sym (length-take-le r.update us (omega (arith, n.update_few, n.update_room))), sym (length-take-le r.id is (omega (arith, n.id_few, n.id_room))))
+  are_names : AreNames u i
+  are_names =
+      let both = unpacked_names narrow (lit≤ tt) b (stamp_of u i) n.reads in
+      record { update = both.0; id = both.1; update_words = n.update.whole; id_words = n.id.whole }
 
-  malformed : r.ok ≡ false → read_stamp narrow b ≡ record { answer = Refused Malformed; stamp = blank narrow }
-  unfolding read_stamp
-  malformed h = ap (read_as narrow) (rw h at n.reads)
-
-  told : r.ok ≡ true → unpacked narrow b ≡ some (stamp_of u i)
-  told h = rw h at n.reads
-
-  are_names : r.ok ≡ true → AreNames u i
-  are_names h =
-      let both = unpacked_names narrow (lit≤ tt) b (stamp_of u i) (told h) in
-      record { update = both.0; id = both.1; update_words = n.update_words; id_words = n.id_words }
-
-  unlawful : r.ok ≡ true → lawful narrow (stamp_of u i) ≡ false → read_stamp narrow b ≡ record { answer = Refused Unlawful; stamp = blank narrow }
+  unlawful : lawful narrow (stamp_of u i) ≡ false → read_stamp narrow b ≡ Err Unlawful
   unfolding read_stamp first
-  unlawful h l = ap (read_as narrow) (told h) ∙ rw l
+  unlawful l = ap (read_as narrow) n.reads ∙ rw l
 
-  lawful_read : r.ok ≡ true → lawful narrow (stamp_of u i) ≡ true → read_stamp narrow b ≡ record { answer = Done; stamp = stored narrow (stamp_of u i) }
+  lawful_read : lawful narrow (stamp_of u i) ≡ true → read_stamp narrow b ≡ Ok (stored narrow (stamp_of u i))
   unfolding read_stamp first
-  lawful_read h l = ap (read_as narrow) (told h) ∙ rw l
+  lawful_read l = ap (read_as narrow) n.reads ∙ rw l
 
-  module _ (e : read_stamp narrow b ≡ record { answer = Done; stamp = stored narrow (stamp_of u i) }) where
-    counts_are : record { answer = Done; update = r.update; id = r.id } ≡ counts_of (read_stamp narrow b)
-    unfolding counts_of stored words_of
-    counts_are =
-        ap₂ (λ (x y : ℕ). record { answer = Done; update = x; id = y }) (part_length.0 ∙ sym (length-map u str_of)) (part_length.1 ∙ sym (length-map i str_of))
-        ∙ sym (ap counts_of e)
+  -- the words of a lawful stamp, lent
+  laid : (m : ℕ) (ws x p : List ℕ) → m ≡ length (take m ws) → p ≡ take m ws → are_words (take m ws) ≡ true
+      → p ++ drop m x ≡ lent_to (words_of narrow (strs (take m ws))) x
+  laid m ws x p e f h = ap₂ (λ (l : List ℕ) (c : ℕ). l ++ drop c x) f e ∙ lent_words (take m ws) x h
 
-    update_is : (out : List ℕ) → over u out ≡ lent_to (read_stamp narrow b).stamp.update out
-    unfolding stored
-    update_is out = lent_words u out n.update_words ∙ sym (ap (λ (g : Given). lent_to g.stamp.update out) e)
-
-    id_is : (out : List ℕ) → over i out ≡ lent_to (read_stamp narrow b).stamp.id out
-    unfolding stored
-    id_is out = lent_words i out n.id_words ∙ sym (ap (λ (g : Given). lent_to g.stamp.id out) e)
+  lent : (x y p q : List ℕ) → length us ≡ 16 → length is ≡ 16 → p ≡ u → q ≡ i → lawful narrow (stamp_of u i) ≡ true
+      → (Ok k ≡ counts_of (read_stamp narrow b)) × (p ++ drop k.update x ≡ update_in (read_stamp narrow b) x)
+      × (q ++ drop k.id y ≡ id_in (read_stamp narrow b) y)
+  unfolding stored words_of
+  lent x y p q hu hi ep eq l =
+      let eu : k.update ≡ length u = sym (length-take-le k.update us (omega (arith, n.update.few))) in
+      let ei : k.id ≡ length i = sym (length-take-le k.id is (omega (arith, n.id.few))) in
+      rw (lawful_read l) (
+        ap₂ (λ (m n : ℕ). Ok (record { update = m; id = n })) (eu ∙ sym (length-map u str_of)) (ei ∙ sym (length-map i str_of)),
+        laid k.update us x p eu ep n.update.whole,
+        laid k.id is y q ei eq n.id.whole,
+      )
 
 -- ---- the code
 
-pub returns-then-not-names : goal.returns-then-not-names
-returns-then-not-names c =
-    refused c.args.b.now Malformed c.unread.result c.args.update.now c.args.id.now c.unread.ensures
-    (malformed c.names_in-names.ensures (not-true _ c.if-not-names.true))
-
-pub slice_bounds-u-end : goal.slice_bounds-u-end
-slice_bounds-u-end c = let n = c.names_in-names.ensures in omega (arith, n.update_few, n.update_room)
-
-pub slice_bounds-is_lawful_read-end : goal.slice_bounds-is_lawful_read-end
-slice_bounds-is_lawful_read-end c = (part_length c.names_in-names.ensures).0
-
-pub slice_bounds-i-end : goal.slice_bounds-i-end
-slice_bounds-i-end c = let n = c.names_in-names.ensures in omega (arith, n.id_few, n.id_room)
-
-pub slice_bounds-is_lawful_read-end-2 : goal.slice_bounds-is_lawful_read-end-2
-slice_bounds-is_lawful_read-end-2 c = (part_length c.names_in-names.ensures).1
+pub returns-in_err-counts : goal.returns-in_err-counts
+returns-in_err-counts c =
+    let passed = err_from_is_err_and _ c.from_residual.ensures.1 in
+    refused c.args.b.now _ _ _ _ (passed.1 ∙ ap Err passed.2)
+    (not_names c.args.b.now _ _ _ _ c.names_in.ensures c.in_err-counts.ensures.value)
 
 pub is_lawful_read-requires : goal.is_lawful_read-requires
-is_lawful_read-requires c = are_names c.names_in-names.ensures (not-false _ c.if-not-names.false)
+is_lawful_read-requires c = are_names (rw c.in_ok-counts.ensures.ok_part at c.names_in.ensures)
 
 pub returns-then-not-is_lawful_read : goal.returns-then-not-is_lawful_read
 returns-then-not-is_lawful_read c =
-    refused c.args.b.now Unlawful c.unread-then-not-is_lawful_read.result c.args.update.now c.args.id.now c.unread-then-not-is_lawful_read.ensures
-    (unlawful c.names_in-names.ensures (not-false _ c.if-not-names.false)
-    (sym c.is_lawful_read.ensures ∙ c.if-not-is_lawful_read.true))
-
-pub slice_bounds-u-end-2 : goal.slice_bounds-u-end-2
-slice_bounds-u-end-2 c = let n = c.names_in-names.ensures in omega (arith, n.update_few, n.update_room)
-
-pub slice_bounds-lend-end : goal.slice_bounds-lend-end
-slice_bounds-lend-end c = (part_length c.names_in-names.ensures).0
-
-pub lend-requires : goal.lend-requires
-lend-requires c = let n = c.names_in-names.ensures in omega (arith, (part_length n).0, n.update_few)
-
-pub slice_bounds-i-end-2 : goal.slice_bounds-i-end-2
-slice_bounds-i-end-2 c = let n = c.names_in-names.ensures in omega (arith, n.id_few, n.id_room)
-
-pub slice_bounds-lend-end-3 : goal.slice_bounds-lend-end-3
-slice_bounds-lend-end-3 c = (part_length c.names_in-names.ensures).1
-
-pub lend-requires-2 : goal.lend-requires-2
-lend-requires-2 c = let n = c.names_in-names.ensures in omega (arith, (part_length n).1, n.id_few)
+    refused c.args.b.now Unlawful (Err Unlawful) c.args.update.now c.args.id.now refl
+    (unlawful (rw c.in_ok-counts.ensures.ok_part at c.names_in.ensures) (sym c.is_lawful_read.ensures ∙ c.if-not-is_lawful_read.true))
 
 pub returns : goal.returns
 returns c =
-    let e = lawful_read c.names_in-names.ensures (not-false _ c.if-not-names.false) (sym c.is_lawful_read.ensures ∙ c.if-not-is_lawful_read.false) in (
-      counts_are c.names_in-names.ensures e,
-      c.lend.ensures ∙ update_is c.names_in-names.ensures e c.args.update.now,
-      c.lend-2.ensures ∙ id_is c.names_in-names.ensures e c.args.id.now,
-    )
+    lent (rw c.in_ok-counts.ensures.ok_part at c.names_in.ensures) c.args.update.now c.args.id.now _ _ (omega arith) (omega arith)
+    c.copy_from_slice.ensures.after c.copy_from_slice-2.ensures.after (sym c.is_lawful_read.ensures ∙ c.if-not-is_lawful_read.false)

@@ -1,10 +1,11 @@
-use Rattle.laws.proofs.Library.{◌-◌, ◌/◌, ◌≤◌, length}
+use Rattle.laws.proofs.Library.{◌≤◌, length}
 use Rattle.printing.specs.Answers.{longest}
 use Rattle.trace.proofs.write.Given as goal
 
--- so many answers are printed
-abbrev pub invariant-loop-from : goal.invariant-loop-from
-invariant-loop-from g l = (l.from ≤ length l.commands / 3) × (longest ≤ length l.out)
+-- no more answers are left than there were, and the longest has room
+abbrev pub invariant-loop-rest : goal.invariant-loop-rest
+invariant-loop-rest g l = (length l.rest ≤ length l.commands) × (longest ≤ length l.out)
 
-abbrev pub decreases-loop-from : goal.decreases-loop-from
-decreases-loop-from g l = length l.commands / 3 - l.from
+-- how many answers are left
+abbrev pub decreases-loop-rest : goal.decreases-loop-rest
+decreases-loop-rest g l = length l.rest

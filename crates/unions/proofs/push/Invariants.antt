@@ -1,9 +1,13 @@
-use Rattle.laws.proofs.Library.{◌≡◌, ◌≤◌}
+use Rattle.laws.proofs.Library.{◌≡◌, ◌≤◌, length, take}
 use Rattle.unions.specs.Unions.{push, stack}
 use Rattle.unions.proofs.push.Given as goal
 
-abbrev pub invariant-loop-top : goal.invariant-loop-top
-invariant-loop-top l = (l.top ≤ l.k) × (push l.x (stack l.id l.top) ≡ push l.s (stack l.id l.k))
+abbrev pub invariant-loop-below : goal.invariant-loop-below
+invariant-loop-below l = record {
+  part : l.below ≡ take (length l.below) l.fn.words;
+  fewer : length l.below ≤ l.count;
+  same : push l.x (stack l.fn.words (length l.below)) ≡ push l.s (stack l.fn.words l.count);
+}
 
-abbrev pub decreases-loop-top : goal.decreases-loop-top
-decreases-loop-top l = l.top
+abbrev pub decreases-loop-below : goal.decreases-loop-below
+decreases-loop-below l = length l.below

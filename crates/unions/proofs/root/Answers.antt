@@ -3,13 +3,11 @@ use Rattle.laws.proofs.Library.{arith}
 use Rattle.unions.proofs.Seeks.{root_here, root_self, root_end}
 use Rattle.unions.proofs.root.Goals as goal
 
-pub returns-then-t-r : goal.returns-then-t-r
-returns-then-t-r c =
-    root_here c.args.id.now c.args.j c.args.r (omega arith) c.if-t-r.true
+pub returns-in-len1-up : goal.returns-in-len1-up
+returns-in-len1-up c = root_here c.args.id.now c.args.r (omega arith) c.if-t-r.true
 
-pub returns-else-t-r : goal.returns-else-t-r
-returns-else-t-r c =
-    root_self c.args.id.now c.args.j c.args.r (omega arith) c.if-t-r.false
+pub returns-in_default : goal.returns-in_default
+returns-in_default c = root_end c.args.id.now c.args.r (omega arith)
 
-pub returns-else-j-id : goal.returns-else-j-id
-returns-else-j-id c = root_end c.args.id.now c.args.j c.args.r (omega arith)
+pub returns-in_default-2 : goal.returns-in_default-2
+returns-in_default-2 c = root_self c.args.id.now c.args.r (omega arith) c.if-t-r.false

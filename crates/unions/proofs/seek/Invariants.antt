@@ -1,9 +1,9 @@
-use Rattle.laws.proofs.Library.{◌≡◌, ◌-◌, ◌≤◌, length, drop}
+use Rattle.laws.proofs.Library.{◌≡◌, length}
 use Rattle.unions.specs.Unions.{seek}
 use Rattle.unions.proofs.seek.Given as goal
 
-abbrev pub invariant-loop-i : goal.invariant-loop-i
-invariant-loop-i l = (l.i ≤ length l.id) × (seek (drop l.i l.id) l.r ≡ seek (drop l.j l.id) l.r)
+abbrev pub invariant-loop-rest : goal.invariant-loop-rest
+invariant-loop-rest l = seek l.rest l.r ≡ seek l.id l.r
 
-abbrev pub decreases-loop-i : goal.decreases-loop-i
-decreases-loop-i l = length l.id - l.i
+abbrev pub decreases-loop-rest : goal.decreases-loop-rest
+decreases-loop-rest l = length l.rest

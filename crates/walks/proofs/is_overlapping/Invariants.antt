@@ -1,9 +1,10 @@
-use Rattle.laws.proofs.Library.{◌≡◌, ◌+◌, ◌-◌, length, drop}
+-- `walks::is_overlapping` meets its contract: what is left of both decides, and the measure is how many are to come.
+use Rattle.laws.proofs.Library.{◌≡◌, ◌+◌, length}
 use Rattle.walks.specs.Walks.{overlap_walk}
 use Rattle.walks.proofs.is_overlapping.Given as goal
 
-abbrev pub invariant-loop-i : goal.invariant-loop-i
-invariant-loop-i l = overlap_walk (drop l.i l.m) (drop l.j l.n) ≡ overlap_walk l.m l.n
+abbrev pub invariant-loop-ours : goal.invariant-loop-ours
+invariant-loop-ours l = overlap_walk l.ours l.theirs ≡ overlap_walk l.m l.n
 
-abbrev pub decreases-loop-i : goal.decreases-loop-i
-decreases-loop-i l = length l.m - l.i + (length l.n - l.j)
+abbrev pub decreases-loop-ours : goal.decreases-loop-ours
+decreases-loop-ours l = length l.ours + length l.theirs

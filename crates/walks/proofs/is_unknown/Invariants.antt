@@ -1,9 +1,7 @@
-use Rattle.laws.proofs.Library.{◌≡◌, ◌-◌, ◌≤◌, length, drop}
+-- `walks::is_unknown` meets its contract: the strings of u from the index on, asked of what is left of the other's id and update, decide.
+use Rattle.laws.proofs.Library.{◌≡◌, drop}
 use Rattle.walks.specs.Walks.{unknown_walk}
 use Rattle.walks.proofs.is_unknown.Given as goal
 
-abbrev pub invariant-loop-a : goal.invariant-loop-a
-invariant-loop-a l = (unknown_walk (drop l.a l.u) (drop l.b l.i) (drop l.c l.v) ≡ unknown_walk l.u l.i l.v) × (l.c ≤ length l.v)
-
-abbrev pub decreases-loop-a : goal.decreases-loop-a
-decreases-loop-a l = length l.u - l.a
+abbrev pub invariant-loop-r : goal.invariant-loop-r
+invariant-loop-r l = unknown_walk (drop l.r-index l.u) l.ids l.updates ≡ unknown_walk l.u l.fn.other.id.now l.fn.other.update.now

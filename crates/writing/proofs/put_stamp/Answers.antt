@@ -1,135 +1,75 @@
--- `writing::put_stamp` meets its contract: each name's strings are put behind its count, and what is then written are the stamp's bits.
+-- `writing::put_stamp` meets its contract: the bits of one name behind those of the other are the stamp's, and there is room for both.
 -- Assumes nothing.
-use Rattle.laws.proofs.Library.{◌≡◌, refl, sym, ap, ◌∙◌, Bool, List, ◌++◌, map, append_assoc, ℕ, ◌+◌, ◌*◌, ◌-◌, ◌%◌, ◌^◌, ◌≤◌, arith, length, take}
-use Rattle.laws.proofs.Library.{drop, length-map, drop-drop}
+use Rattle.laws.proofs.Library.{◌≡◌, refl, ap, ap₂, ◌∙◌, Bool, List, ◌++◌, map, ℕ, arith, length, take, drop, length-append, true, []}
 use Rattle.rules.specs.Limits.{narrow}
 use Rattle.rules.specs.Strings.{field, str_of}
-use Rattle.rules.specs.Packed.{strings_bits, name_bits, stamp_bits, pack_bits, packed, over, bits_of}
-use Rattle.writing.specs.Cursors.{written, Put}
+use Rattle.rules.specs.Names.{all}
+use Rattle.rules.specs.Packed.{name_bits, stamp_bits, pack_bits, packed, over, bits_of}
 use Rattle.layout.specs.Words.{stamp_of}
+use Rattle.layout.proofs.Bytes.{are_bytes}
+use Rattle.layout.proofs.Sizes.{names_length}
+use Rattle.writing.specs.Cursors.{written, Put}
 use Rattle.writing.specs.declared.Pen.{Pen}
-use Rattle.layout.proofs.Sizes.{name_length, names_length}
-use Rattle.layout.proofs.Values.{bytes_are}
-use Rattle.writing.proofs.Writing.{both_fit, push_lt, push_bits}
+use Rattle.writing.proofs.Writing.{both_fit, put_then, drop_on}
 use Rattle.std.proofs.Common.{rules}
 use Rattle.writing.proofs.put_stamp.Goals as goal
-
-abbrev strings : List ℕ → List Bool
-strings n = strings_bits narrow (map str_of n)
 
 abbrev name : List ℕ → List Bool
 name n = name_bits narrow (map str_of n)
 
--- the count of the words of n is held
-abbrev first : List ℕ → Pen
-first n = record { at = 0; held = 4; acc = length n - 1 }
+none : are_bytes [] ≡ true
+unfolding all
+none = refl
 
-abbrev next : Pen → List ℕ → Pen
-next q n = record { at = q.at; held = q.held + 4; acc = (q.acc * 2 ^ 4) % 2 ^ 64 + (length n - 1) }
+-- nothing is written before the update
+module _ (u i : List ℕ) {p q r : Pen} (at : p.at ≡ 0) (held : p.held ≡ 0) (s : Put p (name u) q) (t : Put q (name i) r) where
+  stamp_is : pack_bits (written r) ≡ packed narrow (stamp_of u i)
+  unfolding packed stamp_bits bits_of field
+  stamp_is =
+      ap pack_bits
+      ((put_then (name u) (name i) s t).bits
+      ∙ ap₂ (λ (a h : ℕ). (bits_of (take a p.out.now) ++ field h p.acc) ++ (name u ++ name i)) at held)
 
-counted : (n : List ℕ) → field 4 (length n - 1) ++ strings n ≡ name n
-unfolding name_bits
-counted n = ap (λ (k : ℕ). field 4 (k - 1) ++ strings n) (sym (length-map n str_of))
+  rest_kept : drop (length (packed narrow (stamp_of u i))) r.out.now ≡ drop (length (packed narrow (stamp_of u i))) p.out.now
+  rest_kept =
+      let all = put_then (name u) (name i) s t in
+      drop_on r.at _ r.out.now p.out.now (omega (arith, all.moved, length-append (name u) (name i), names_length narrow (stamp_of u i))) all.kept
 
-name_size : (n : List ℕ) → length (name n) ≡ 4 + length (strings n)
-name_size n = name_length narrow (map str_of n)
+  whole : over (pack_bits (written r)) r.out.now ≡ over (packed narrow (stamp_of u i)) p.out.now
+  whole =
+      ap (λ (l : List ℕ). over l r.out.now) stamp_is ∙ ap (λ (l : List ℕ). packed narrow (stamp_of u i) ++ l) rest_kept
 
--- where two lists agree they agree further on
-drop_on : (i j : ℕ) (l m : List ℕ) → i ≤ j → drop i l ≡ drop i m → drop j l ≡ drop j m
-drop_on i j l m h e =
-    let on : i + (j - i) ≡ j = omega arith in
-    ap (λ (k : ℕ). drop k l) (sym on) ∙ sym (drop-drop (j - i) i l) ∙ ap (drop (j - i)) e ∙ drop-drop (j - i) i m ∙ ap (λ (k : ℕ). drop k m) on
-
-module _ (u i l : List ℕ) (q : Pen) (m : List ℕ) (p : Put (first u) l (strings u) q m) where
-  update_bits : written q m ≡ name u
-  unfolding bits_of
-  update_bits = p.bits ∙ counted u
-
-  next_bits : length i ≤ 16 → written (next q i) m ≡ name u ++ field 4 (length i - 1)
-  next_bits h =
-      let b = bits_of (take q.at m) in
-      ap (λ (x : List Bool). b ++ x)
-      (push_bits q.acc q.held 60 4 (length i - 1) (omega (arith, p.few)) refl (omega arith))
-      ∙ sym (append_assoc b (field q.held q.acc) (field 4 (length i - 1)))
-      ∙ ap (λ (x : List Bool). x ++ field 4 (length i - 1)) update_bits
-
-  module _ (r : Pen) (k : List ℕ) (s : Put (next q i) m (strings i) r k) where
-    stamp_is : length i ≤ 16 → pack_bits (written r k) ≡ packed narrow (stamp_of u i)
-    unfolding packed stamp_bits
-    stamp_is h =
-        ap pack_bits
-        (s.bits ∙ ap (λ (x : List Bool). x ++ strings i) (next_bits h) ∙ append_assoc (name u) (field 4 (length i - 1)) (strings i)
-        ∙ ap (λ (x : List Bool). name u ++ x) (counted i))
-
-    rest_kept : drop (length (packed narrow (stamp_of u i))) k ≡ drop (length (packed narrow (stamp_of u i))) l
-    rest_kept =
-        let n = length (packed narrow (stamp_of u i)) in
-        let size = names_length narrow (stamp_of u i) in
-        drop_on r.at n k m (omega (arith, size, s.moved, p.moved, name_size u, name_size i)) s.kept
-        ∙ drop_on q.at n m l (omega (arith, size, p.moved, name_size u, name_size i)) p.kept
-
-    whole : (z : List ℕ) → length i ≤ 16 → z ≡ over (pack_bits (written r k)) k → z ≡ over (packed narrow (stamp_of u i)) l
-    whole z h e =
-        e ∙ ap (λ (x : List ℕ). over x k) (stamp_is h) ∙ ap (λ (x : List ℕ). packed narrow (stamp_of u i) ++ x) rest_kept
-
-pub overflow_sub-c : goal.overflow_sub-c
-overflow_sub-c c = (both_fit c.args.update.now c.args.id.now c.requires.0).0.nonempty
-
-pub overflow_sub-d : goal.overflow_sub-d
-overflow_sub-d c = (both_fit c.args.update.now c.args.id.now c.requires.0).1.nonempty
-
-pub put_strings-u-requires : goal.put_strings-u-requires
-put_strings-u-requires c =
-    let u = c.args.update.now in
-    let i = c.args.id.now in (
-      (both_fit u i c.requires.0).0.short,
-      record { few = omega arith; room = omega (arith, c.requires.1, names_length narrow (stamp_of u i), name_size u, name_size i) },
+pub put_name-requires : goal.put_name-requires
+put_name-requires c =
+    let u = c.args.n.update.now in
+    let i = c.args.n.id.now in (
+      (both_fit u i c.requires.0).0,
+      record { few = omega arith; bytes = none; room = omega (arith, c.requires.1, names_length narrow (stamp_of u i)) },
     )
 
-pub overflow_add-acc : goal.overflow_add-acc
-overflow_add-acc c =
-    let i = c.args.id.now in
-    let fit = (both_fit c.args.update.now i c.requires.0).1 in
-    record { fits = push_lt c.put_strings-u.result.acc 60 4 (length i - 1) refl (omega (arith, fit.few)) }
-
-pub put_strings-i-requires : goal.put_strings-i-requires
-put_strings-i-requires c =
-    let u = c.args.update.now in
-    let i = c.args.id.now in
-    let put = c.put_strings-u.ensures in (
-      (both_fit u i c.requires.0).1.short,
-      record {
-        few = omega (arith, put.fewer (omega arith));
-        room = omega (arith, put.moved, c.put_strings-u.auto.out, c.requires.1, names_length narrow (stamp_of u i), name_size u, name_size i);
-      },
+pub put_name-requires-2 : goal.put_name-requires-2
+put_name-requires-2 c =
+    let u = c.args.n.update.now in
+    let i = c.args.n.id.now in
+    let put = c.put_name.ensures in (
+      (both_fit u i c.requires.0).1,
+      record { few = put.few; bytes = put.bytes none; room = omega (arith, put.moved, put.long, c.requires.1, names_length narrow (stamp_of u i)) },
     )
 
-pub put_rest-requires : goal.put_rest-requires
-put_rest-requires c =
-    let u = c.args.update.now in
-    let i = c.args.id.now in
-    let put = c.put_strings-i.ensures in (
-      bytes_are c.put_strings-i.new.out (λ j. search rules),
-      record {
-        few = put.few;
-        room = omega (
-          arith,
-          put.moved,
-          c.put_strings-u.ensures.moved,
-          c.put_strings-i.auto.out,
-          c.put_strings-u.auto.out,
-          c.requires.1,
-          names_length narrow (stamp_of u i),
-          name_size u,
-          name_size i,
-        );
-      },
-    )
+pub end-requires : goal.end-requires
+end-requires c =
+    let u = c.args.n.update.now in
+    let i = c.args.n.id.now in
+    let put = c.put_name.ensures in
+    let next = c.put_name-2.ensures in
+    record {
+      few = next.few;
+      bytes = next.bytes (put.bytes none);
+      room = omega (arith, next.moved, next.long, put.moved, put.long, c.requires.1, names_length narrow (stamp_of u i));
+    }
 
 pub returns : goal.returns
 returns c =
-    let u = c.args.update.now in
-    let i = c.args.id.now in
-    whole u i c.args.out.now c.put_strings-u.result c.put_strings-u.new.out c.put_strings-u.ensures
-    c.put_strings-i.result c.put_strings-i.new.out c.put_strings-i.ensures c.put_rest.new.out
-    (both_fit u i c.requires.0).1.few c.put_rest.ensures
+    let e : c.end.new.self.0 ≡ over (packed narrow (stamp_of c.args.n.update.now c.args.n.id.now)) c.args.out.now =
+    c.end.ensures ∙ whole c.args.n.update.now c.args.n.id.now refl refl c.put_name.ensures c.put_name-2.ensures in
+    search rules

@@ -1,75 +1,48 @@
--- `writing::size_of` meets its contract: a name that fits has bits, so that none tells of one that does not. Assumes nothing.
-use Rattle.laws.proofs.Library.{◌≡◌, refl, sym, ap₂, ◌∙◌, Bool, true, false, cond, and-false, List, map, ℕ, ◌+◌, ◌≤◌, arith, length}
+-- `writing::size_of` meets its contract: a stamp that fits has the bits of both its names, in whole bytes. Assumes nothing.
+use Rattle.laws.proofs.Library.{◌≡◌, refl, sym, ap, ap₂, ◌∙◌, true, cond, and-false, List, map, ℕ, ◌+◌, ◌≤◌, arith, length}
 use Rattle.rules.specs.Limits.{narrow, bytes_for}
 use Rattle.rules.specs.Strings.{str_of}
 use Rattle.rules.specs.Packed.{name_bits, packed}
 use Rattle.layout.specs.Words.{stamp_of}
+use Rattle.std.specs.declared.option.Option.TheVariants.{None, Some}
 use Rattle.writing.specs.Fits.{fits_name, fits}
-use Rattle.layout.proofs.Sizes.{name_length, names_length}
-use Rattle.writing.proofs.Writing.{fitted, fitted_most}
+use Rattle.layout.proofs.Sizes.{names_length}
+use Rattle.writing.proofs.Writing.{fitted, fitted_most, when_none, when_some}
 use Rattle.writing.proofs.size_of.Goals as goal
 
--- the bits of a name, or none
 abbrev bits : List ℕ → ℕ
-bits n = cond (fits_name narrow n) (length (name_bits narrow (map str_of n))) 0
+bits n = length (name_bits narrow (map str_of n))
 
-module _ (n : List ℕ) (r : ℕ) (is : r ≡ bits n) where
-  none : r ≡ 0 → fits_name narrow n ≡ false
-  none z = by (fits_name narrow n) refl where
-    by : (b : Bool) → fits_name narrow n ≡ b → b ≡ false
-    by true e = absurd (omega (arith, z, rw e at is, name_length narrow (map str_of n)))
-    by false e = refl
+module _ (n : List ℕ) (x : ℕ) (is : Some x ≡ cond (fits_name narrow n) (Some (bits n)) None) where
+  there : fits_name narrow n ≡ true
+  there = (when_some _ x (bits n) is).0
 
-  some : (r ≡ 0 → ⊥) → fits_name narrow n ≡ true
-  some z = by (fits_name narrow n) refl where
-    by : (b : Bool) → fits_name narrow n ≡ b → b ≡ true
-    by true e = refl
-    by false e = absurd (z (rw e at is))
+  most : x ≤ 468
+  most = omega (arith, (when_some _ x (bits n) is).1, fitted_most n (fitted n there))
 
-  all_bits : fits_name narrow n ≡ true → r ≡ length (name_bits narrow (map str_of n))
-  all_bits e = rw e at is
-
-  most : r ≤ 468
-  most = by (fits_name narrow n) refl where
-    by : (b : Bool) → fits_name narrow n ≡ b → r ≤ 468
-    by true e = omega (arith, all_bits e, fitted_most n (fitted n e))
-    by false e = let z : r ≡ 0 = rw e at is in omega (arith, z)
-
--- the sizes of both
-abbrev size : List ℕ → List ℕ → ℕ
-size u i = cond (fits narrow u i) (length (packed narrow (stamp_of u i))) 0
-
-no_update : (u i : List ℕ) → fits_name narrow u ≡ false → 0 ≡ size u i
+both : (u i : List ℕ) (x y : ℕ) → Some x ≡ cond (fits_name narrow u) (Some (bits u)) None → Some y ≡ cond (fits_name narrow i) (Some (bits i)) None
+    → Some (bytes_for (x + y)) ≡ cond (fits narrow u i) (Some (length (packed narrow (stamp_of u i)))) None
 unfolding fits
-no_update u i e = rw e
+both u i x y e f =
+    let a = when_some _ x (bits u) e in
+    let b = when_some _ y (bits i) f in
+    rw (a.0, b.0) (ap Some (ap₂ (λ (x y : ℕ). bytes_for (x + y)) a.1 b.1 ∙ sym (names_length narrow (stamp_of u i))))
 
-no_id : (u i : List ℕ) → fits_name narrow i ≡ false → 0 ≡ size u i
+pub returns-in_err-bits_of : goal.returns-in_err-bits_of
 unfolding fits
-no_id u i e = rw (e, and-false)
+returns-in_err-bits_of c = c.from_residual.ensures ∙ rw (when_none _ _ c.in_err-bits_of.ensures) refl
 
-both : (u i : List ℕ) (r s : ℕ) → r ≡ bits u → s ≡ bits i → fits_name narrow u ≡ true → fits_name narrow i ≡ true → bytes_for (r + s) ≡ size u i
+pub returns-in_err-bits : goal.returns-in_err-bits
 unfolding fits
-both u i r s p q e f =
-    rw (e, f) (ap₂ (λ (a b : ℕ). bytes_for (a + b)) (all_bits u r p e) (all_bits i s q f) ∙ sym (names_length narrow (stamp_of u i)))
+returns-in_err-bits c = c.from_residual-in_err-bits.ensures ∙ rw (when_none _ _ c.in_err-bits.ensures, and-false) refl
 
-pub returns-then-u-eq0 : goal.returns-then-u-eq0
-returns-then-u-eq0 c =
-    no_update c.args.update.now c.args.id.now (none c.args.update.now c.bits_of-u.result c.bits_of-u.ensures c.if-u-eq0.true)
-
-pub returns-then-i-eq0 : goal.returns-then-i-eq0
-returns-then-i-eq0 c =
-    no_id c.args.update.now c.args.id.now (none c.args.id.now c.bits_of-i.result c.bits_of-i.ensures c.if-i-eq0.true)
+pub overflow_add-bits : goal.overflow_add-bits
+overflow_add-bits c =
+    record { fits = omega (arith, most _ _ c.in_ok-bits_of.ensures, most _ _ c.in_ok-bits.ensures) }
 
 pub overflow_add-result : goal.overflow_add-result
 overflow_add-result c =
-    record { fits = omega (arith, most _ _ c.bits_of-u.ensures, most _ _ c.bits_of-i.ensures) }
-
-pub overflow_add-result-2 : goal.overflow_add-result-2
-overflow_add-result-2 c =
-    record { fits = omega (arith, most _ _ c.bits_of-u.ensures, most _ _ c.bits_of-i.ensures) }
+    record { fits = omega (arith, most _ _ c.in_ok-bits_of.ensures, most _ _ c.in_ok-bits.ensures) }
 
 pub returns : goal.returns
-returns c =
-    both c.args.update.now c.args.id.now c.bits_of-u.result c.bits_of-i.result c.bits_of-u.ensures c.bits_of-i.ensures
-    (some c.args.update.now c.bits_of-u.result c.bits_of-u.ensures c.if-u-eq0.false)
-    (some c.args.id.now c.bits_of-i.result c.bits_of-i.ensures c.if-i-eq0.false)
+returns c = both _ _ _ _ c.in_ok-bits_of.ensures c.in_ok-bits.ensures

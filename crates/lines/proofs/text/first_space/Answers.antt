@@ -1,18 +1,10 @@
--- `lines::text::first_space` meets its contract. The loop's invariant: no space was passed, so the first stands as far behind i as it does
--- in what is left. The measure is what is left. Assumes nothing.
-use Rattle.laws.proofs.Library.{arith}
-use Rattle.lines.proofs.Splits.{first_here, first_next, first_end}
-use Rattle.std.proofs.Common.{rules}
+-- `lines::text::first_space` meets its contract: the library's search gives the first place at which its test passes. Assumes nothing.
+use Rattle.laws.proofs.Library.{eqb}
+use Rattle.std.proofs.Common.{rules, tests}
+use Rattle.std.proofs.lemmas.Iterator.{YieldsList-from_slice}
+use Rattle.std.proofs.lemmas.Iterator.Search.{position_from_yields_List}
 use Rattle.lines.proofs.text.first_space.Goals as goal
-
-pub returns-then-s-i-eq-SPACE : goal.returns-then-s-i-eq-SPACE
-returns-then-s-i-eq-SPACE c =
-    omega (arith, first_here 32 c.args.s.now c.loop-i.i (omega arith) c.if-s-i-eq-SPACE.true)
-
-pub loop-i-preserved : goal.loop-i-preserved
-loop-i-preserved c =
-    (search rules, omega (arith, first_next 32 c.args.s.now c.loop-i.i (omega arith) c.if-s-i-eq-SPACE.false))
 
 pub returns : goal.returns
 returns c =
-    omega (arith, first_end 32 c.args.s.now c.loop-i.i (omega arith))
+    position_from_yields_List (λ x. eqb x 32) _ _ _ c.position.ensures.ran (YieldsList-from_slice c.args.s.now cc) (λ x b q k. search (rules, tests))

@@ -1,0 +1,3 @@
+-- What a piece leaves.
+pub mod Taken
+pub mod Portions
