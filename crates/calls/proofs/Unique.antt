@@ -13,6 +13,7 @@ use Rattle.calls.specs.contracts.join
 use Rattle.calls.specs.contracts.compare
 use Rattle.calls.specs.contracts.keep
 use Rattle.calls.specs.contracts.room
+use Rattle.calls.specs.contracts.room_in
 
 pub update_one_answer : OneAnswer update.ended (λ M 𝓤 𝓛. update.clauses 𝓛) (λ M 𝓤 𝓛. update.spec 𝓛)
 update_one_answer M 𝓤 𝓛 mem run = (refl, λ κs a g h r s v w. both_say 𝓤 (λ e f. (agree e.0 f.0, λ i. (tt, (agree e.1 f.1 i, tt)))))
@@ -28,6 +29,9 @@ compare_one_answer M 𝓤 𝓛 mem run = (refl, λ κs a g h r s v w. both_say �
 
 pub room_one_answer : OneAnswer room.ended (λ M 𝓤 𝓛. room.clauses 𝓛) (λ M 𝓤 𝓛. room.spec 𝓛)
 room_one_answer M 𝓤 𝓛 mem run = (refl, λ κs a g h r s v w. both_say 𝓤 (λ e f. (agree e f, refl)))
+
+pub room_in_one_answer : OneAnswer room_in.ended (λ M 𝓤 𝓛. room_in.clauses 𝓛) (λ M 𝓤 𝓛. room_in.spec 𝓛)
+room_in_one_answer M 𝓤 𝓛 mem run = (refl, λ κs a g h r s v w. both_say 𝓤 (λ e f. (agree e f, refl)))
 
 -- what a caller sees of a slice: where it begins, and its bytes
 abbrev pub Shown : Type 0

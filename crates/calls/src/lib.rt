@@ -8,7 +8,7 @@ mod lengths;
 ghost use Rattle.std.specs.Prelude.{◌≡◌};
 ghost use Rattle.rules.specs.Limits.{narrow};
 ghost use Rattle.rules.specs.Packed.{packed_update, packed_fork, packed_join, packed_compare, packed_standing, side_of};
-ghost use Rattle.rules.specs.Room.{room_in};
+ghost use Rattle.rules.specs.Room.{room_in, room_number};
 ghost use Rattle.layout.specs.Words.{stamp_of};
 ghost use Rattle.calls.specs.Joins.{Lent, Reads, wrote_join};
 ghost use Rattle.calls.specs.Keep.{kept_is};
@@ -85,8 +85,20 @@ pub fn keep<'a>(first: &'a [u8], second: &'a [u8]) -> &'a [u8]
     }
 }
 
-// How much of the limits the stamp takes up.
-pub fn room(stamp: &[u8]) -> Result<Room, Refusal>
+// How much of the limits the stamp takes up, as one number: 100 times the number of its id strings, and the digits of the longest; 0 where it
+// is refused.
+// stays: a number, and 0 for none: it was told to refuse nothing (docs/CONTRACTS.md), and a function that could not fail still can't.
+pub fn room(stamp: &[u8]) -> u64
+    ensures { result ≡ room_number narrow stamp.now }
+{
+    match room_in(stamp) {
+        Ok(room) => room.strings as u64 * 100 + room.digits,
+        Err(_) => 0,
+    }
+}
+
+// How much of the limits the stamp takes up, or what it is refused for.
+pub fn room_in(stamp: &[u8]) -> Result<Room, Refusal>
     ensures { result ≡ room_in narrow stamp.now }
 {
     let mut pad = Pad::new();
@@ -115,8 +127,8 @@ impl Pad {
         }
     }
 
-    // The stamp that these bytes pack, in its words.
-    #[inline]
+    // The stamp that these bytes pack, in its words. In line everywhere: the compiler then sees whose words they are (see `unions::unite`).
+    #[inline(always)]
     fn read(&mut self, packed: &[u8]) -> Result<StampWords<'_>, Refusal>
         ensures { Reads packed.now result }
     {

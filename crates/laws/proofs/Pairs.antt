@@ -1,6 +1,6 @@
 -- In rising order x0 and x1 stand side by side: so `pair` finds what a walk over neighbours finds first. Assumes nothing.
 use Rattle.laws.proofs.Library.{◌≡◌, refl, sym, ap, ap₂, ◌∙◌, subst, Bool, true, false, cond, [], ◌∷◌, concat-eq-append, eq-nil-or-concat, drop_last}
-use Rattle.laws.proofs.Library.{inl, inr, ⊎_elim, Option, none, some, ℕ, suc, arith, eqb, eqb·suc-suc, length, eqb-true}
+use Rattle.laws.proofs.Library.{inl, inr, ⊎_elim, Option, none, some, ℕ, suc, ◌≤◌, arith, eqb, eqb·suc-suc, length, eqb-true}
 use Rattle.rules.specs.Strings.{Str, prefix, less, common, siblings, ◌▹◌}
 use Rattle.rules.specs.Names.{Name, rising}
 use Rattle.rules.specs.Stamps.{pair_among, pair}
@@ -13,6 +13,13 @@ unfoldable pub first_twins : Name → Option Str
 first_twins [] = none
 first_twins (s ∷ []) = none
 first_twins (s ∷ t ∷ n) = cond (siblings s t) (some (drop_last s)) (first_twins (t ∷ n))
+
+-- a name of at most one string has none
+pub twins_end : (n : Name) → length n ≤ 1 → first_twins n ≡ none
+unfolding first_twins
+twins_end [] h = refl
+twins_end (s ∷ []) h = refl
+twins_end (s ∷ t ∷ n) h = absurd (omega arith)
 
 -- ---- two siblings
 

@@ -1,6 +1,6 @@
 -- Fields of bits as numbers: what reading bits from bytes and writing them both cite. Assumes nothing.
-use Rattle.laws.proofs.Library.{◌≡◌, refl, sym, ap, ap₂, ◌∙◌, Bool, true, false, not, List, [], ◌∷◌, ◌++◌, ℕ, suc, ◌+◌, ◌*◌, ◌^◌, ◌<◌}
-use Rattle.laws.proofs.Library.{arith, lt-ltb, ne_eqb, eqb, pow_pos, high, low, length, get_or}
+use Rattle.laws.proofs.Library.{◌≡◌, refl, sym, ap, ap₂, ◌∙◌, Bool, true, false, not, List, [], ◌∷◌, ◌++◌, ℕ, suc, ◌+◌, ◌*◌, ◌^◌, ◌≤◌, ◌<◌, mul-le-mul_right}
+use Rattle.laws.proofs.Library.{suc-mul, arith, lt-ltb, ne_eqb, eqb, pow_pos, pow-add, high, low, length, get_or}
 use Rattle.rules.specs.Strings.{field, value_from, value}
 use Rattle.rules.specs.Names.{any, all}
 use Rattle.rules.specs.Packed.{is_filling}
@@ -9,7 +9,13 @@ use Rattle.laws.proofs.Bits.{value_shift}
 use Rattle.laws.proofs.Words.{field_low, field_split}
 use Rattle.layout.proofs.Bytes.{are_bytes}
 
--- the bits of a number of d bits and of k bits below it stand one behind the other
+-- a number of d bits with k bits below it has d + k
+pub join_lt : (a d k v : ℕ) → a < 2 ^ d → v < 2 ^ k → a * 2 ^ k + v < 2 ^ (d + k)
+join_lt a d k v h g =
+    let e : suc a * 2 ^ k ≤ 2 ^ d * 2 ^ k = mul-le-mul_right (2 ^ k) h in
+    omega (arith, suc-mul a (2 ^ k), pow-add 2 d k)
+
+-- and their bits stand one behind the other
 pub field_join : (d k a v : ℕ) → v < 2 ^ k → field (d + k) (a * 2 ^ k + v) ≡ field d a ++ field k v
 field_join d k a v h =
     field_split d k (a * 2 ^ k + v)

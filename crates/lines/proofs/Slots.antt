@@ -1,11 +1,15 @@
--- The slot that some bytes name, by how many they are; and none where there are more than two or a space among them. Assumes nothing.
-use Rattle.laws.proofs.Library.{◌≡◌, refl, Bool, true, false, cond, not, ◌&&◌, and-false, [], ◌∷◌, none, some, ℕ, suc, ◌+◌, ◌*◌, ◌-◌, ◌≤◌}
-use Rattle.laws.proofs.Library.{◌<◌, arith, eqb-true, ne_eqb, eqb, length, get_or}
+-- The slot that some bytes name, by how many they are; none where there are more than two or a space among them; and never above 99. Assumes nothing.
+use Rattle.laws.proofs.Library.{◌≡◌, refl, Bool, true, false, cond, not, ◌&&◌, and-false, [], ◌∷◌, Option·none-ne-some, none, some, ℕ, suc, ◌+◌, ◌*◌, ◌-◌, ◌≤◌}
+use Rattle.laws.proofs.Library.{◌<◌, arith, leb-true, eqb-true, ne_eqb, eqb, leb, length, get_or}
 use Rattle.std.specs.declared.option.Option.{Option}
 use Rattle.std.specs.declared.option.Option.TheVariants.{None, Some}
 use Rattle.rules.specs.Traces.{Text, slot_of, is_digit}
+use Rattle.laws.proofs.Tests.{and_left, and_right}
 use Rattle.lines.specs.Inner.{digit_of, given}
 use Rattle.lines.proofs.Splits.{first_at}
+
+digit_le : (x : ℕ) → is_digit x ≡ true → x ≤ 57
+digit_le x e = leb-true x 57 (and_right (leb 48 x) (leb x 57) e)
 
 -- a space is no digit
 pub slot_space : (l : Text) → first_at 32 l < length l → slot_of l ≡ none
@@ -75,3 +79,20 @@ slot_other l h k = rw (slot_none l h k)
 
 pub slot_short : (l : Text) → 3 ≤ length l → slot_of l ≡ none
 slot_short l h = slot_none l (λ e. omega arith) (λ e. omega arith)
+
+given_below : (b : Bool) (n a : ℕ) → (b ≡ true → n < 100) → cond b (some n) none ≡ some a → a < 100
+given_below true n a h e = let k : n ≡ a = cc in omega (arith, h refl)
+given_below false n a h e = absurd (Option·none-ne-some a e)
+
+-- every slot is below 100
+pub slot_below : (l : Text) (a : ℕ) → slot_of l ≡ some a → a < 100
+unfolding slot_of
+slot_below [] a e = absurd (Option·none-ne-some a e)
+slot_below (x ∷ []) a e = given_below (is_digit x) (x - 48) a (λ f. omega (arith, digit_le x f)) e
+slot_below (x ∷ (y ∷ [])) a e = given_below (is_digit x && is_digit y && not (eqb x 48)) ((x - 48) * 10 + (y - 48)) a two e
+  where
+    two : (is_digit x && is_digit y && not (eqb x 48)) ≡ true → (x - 48) * 10 + (y - 48) < 100
+    two f =
+        let g = and_left (is_digit x && is_digit y) (not (eqb x 48)) f in
+        omega (arith, digit_le x (and_left (is_digit x) (is_digit y) g), digit_le y (and_right (is_digit x) (is_digit y) g))
+slot_below (x ∷ (y ∷ (z ∷ l))) a e = absurd (Option·none-ne-some a e)

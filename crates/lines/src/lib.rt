@@ -74,11 +74,12 @@ pub fn begin() -> Unfinished
 pub fn push(line: Unfinished, x: u8) -> Unfinished
     ensures { result ≡ pushed line x }
 {
-    let mut more = line;
-    if more.len < more.bytes.len() {
-        more.bytes[more.len] = x;
-        more.len += 1;
+    if line.len >= line.bytes.len() {
+        return line;
     }
+    let mut more = line;
+    more.bytes[more.len] = x;
+    more.len += 1;
     more
 }
 

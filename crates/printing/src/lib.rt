@@ -27,6 +27,7 @@ pub fn print(commands: &[Command], out: &mut [u8]) -> Printed
         × (out.new ≡ printed_in commands.now out.old) }
 {
     let mut page = Page { out, len: 0 };
+    // stays: a count beside what it counts, and gives back, as in `lines::gather`
     let mut count = 0;
     for c in commands {
         if page.out.len() - page.len < LONGEST {

@@ -1,2 +1,2 @@
--- What a look at one slot makes of a pass over the table, in the shape of the code.
+-- What a question makes of the record of one slot, in the shape of the code.
 pub mod Scans

@@ -2,12 +2,12 @@
 // obsolete relative to that of another slot. Records are looked at where they lie.
 #![tactic(auto, using(crate::proofs::Turns::turns), unfolding(crate::specs::Scans::obsolete_beside, rules::specs::Refusals::first, rules::specs::Stored::unlawful))]
 
-ghost use Rattle.std.specs.Prelude.{◌≡◌, [], position};
+ghost use Rattle.std.specs.Prelude.{◌≡◌, [], ◌∷◌, position};
 ghost use Rattle.rules.specs.Limits.{narrow};
 ghost use Rattle.rules.specs.Refusals.{first};
-ghost use Rattle.rules.specs.Stored.{absent, held};
+ghost use Rattle.rules.specs.Stored.{absent, unlawful, held};
 ghost use Rattle.rules.specs.Tables.{spare_from, spared_after};
-ghost use Rattle.slots.specs.Rules.{slot_tests};
+ghost use Rattle.rules.specs.declared.Refusal.TheVariants.{NoSlot, Unfit};
 ghost use Rattle.scans.specs.Scans.{obsolete_beside};
 
 use names::lent;
@@ -23,7 +23,7 @@ pub fn lowest_absent(t: &[Record]) -> Option<usize>
 
 // Whether m, which is the record of slot a, is obsolete relative to the copy in some other slot.
 pub fn spare_in(t: &[Record], a: usize, m: &Record) -> Result<Spared, Refusal>
-    ensures { result ≡ spared_after (first (slot_tests m.now [])) (spare_from narrow (held m.now) a 0 t.now) }
+    ensures { result ≡ spared_after (first ((absent narrow m.now, NoSlot) ∷ (unlawful narrow m.now, Unfit) ∷ [])) (spare_from narrow (held m.now) a 0 t.now) }
 {
     asked(m)?;
     for (k, r) in t.iter().enumerate() {

@@ -1,2 +1,2 @@
--- What the rules by value answer, in the shape of the code.
+-- What the rules on records answer, in the shape of the code.
 pub mod Rules

@@ -1,5 +1,6 @@
--- What is asked of numbers alone, and what the rules by value make of the records that they are given.
-use Rattle.std.specs.Prelude.{Bool, true, false, cond, ◌||◌, List, [], ◌∷◌, ℕ, eqb, leb, ltb, Result}
+-- What is asked of numbers alone, and what the rules make of the records that they are given.
+use Rattle.std.specs.Prelude.{Bool, true, false, cond, ◌||◌, List, [], ◌∷◌, ℕ, eqb, leb, ltb, Option, Result}
+use Rattle.std.specs.Option.{is_none}
 use Rattle.rules.specs.Limits.{narrow, records}
 use Rattle.rules.specs.Stamps.{update, fork, join, compare}
 use Rattle.rules.specs.Stored.{held, unlawful, absent}
@@ -8,7 +9,7 @@ use Rattle.rules.specs.Values.{given, branches, told, stands_as}
 use Rattle.rules.specs.declared.Record.{Record}
 use Rattle.rules.specs.declared.Branches.{Branches}
 use Rattle.rules.specs.declared.Refusal.{Refusal}
-use Rattle.rules.specs.declared.Refusal.TheVariants.{Unlawful, NoSlot, OneSlot, Long, Many, Overlap, Unseen, Unfit}
+use Rattle.rules.specs.declared.Refusal.TheVariants.{Unlawful, NoSlot, OneSlot, Full, Long, Many, Overlap, Unseen, Unfit}
 use Rattle.rules.specs.declared.Verdict.{Verdict}
 use Rattle.rules.specs.declared.Standing.{Standing}
 
@@ -16,7 +17,7 @@ use Rattle.rules.specs.declared.Standing.{Standing}
 unfoldable pub gate : ℕ → ℕ → ℕ → Answer
 gate n a b = first ((eqb n 0 || ltb records n, Unfit) ∷ (leb n a || leb n b, NoSlot) ∷ [])
 
--- a record that a rule by value refuses as unlawful, 2, is 12 at the table
+-- a record that a rule on stamps refuses as unlawful, 2, is 12 at the table
 abbrev pub refused_at : Refusal → Refusal
 refused_at r = cond (eqb (number r) (number Unlawful)) Unfit r
 
@@ -27,9 +28,10 @@ slot_tests s more = (absent narrow s, NoSlot) ∷ (unlawful narrow s, Unfit) ∷
 unfoldable pub update_rule : Record → Result Record Refusal
 update_rule s = given narrow (first (slot_tests s [])) (update (held s))
 
--- where some slot is absent
-unfoldable pub fork_rule : Record → Result Branches Refusal
-fork_rule s = branches narrow (first (slot_tests s ((long narrow (held s), Long) ∷ []))) (fork false (held s)) (fork true (held s))
+-- to is the lowest absent slot, if there is one
+unfoldable pub fork_rule : Record → Option ℕ → Result Branches Refusal
+fork_rule s to =
+    branches narrow (first (slot_tests s ((is_none to, Full) ∷ (long narrow (held s), Long) ∷ []))) (fork false (held s)) (fork true (held s))
 
 -- what is asked of two slots' records before they are joined
 abbrev pub pair_tests : ℕ → ℕ → Record → Record → List (Bool × Refusal) → List (Bool × Refusal)

@@ -61,19 +61,25 @@ pub fn asked(r: &Record) -> Result<(), Refusal>
 }
 
 // What update makes of a slot's record.
+// stays: not by `stamps::update`, which was tried: it takes a copy of the record, and gives back one more.
 pub fn update_rule(s: &Record) -> Result<Record, Refusal>
     ensures { result ≡ update_rule s.now }
 {
-    if is_absent(s) {
-        return Err(Refusal::NoSlot);
-    }
-    stamps::update(*s).map_err(refused_at)
+    asked(s)?;
+    Ok(Record {
+        update: s.id,
+        id: s.id,
+    })
 }
 
-// What fork makes of a slot's record, where some slot is absent.
-pub fn fork_rule(s: &Record) -> Result<Branches, Refusal>
-    ensures { result ≡ fork_rule s.now }
+// What fork makes of a slot's record, of which one branch goes to the lowest absent slot, if there is one.
+pub fn fork_rule(s: &Record, to: Option<usize>) -> Result<Branches, Refusal>
+    ensures { result ≡ fork_rule s.now to }
 {
+    if to.is_none() {
+        asked(s)?;
+        return Err(Refusal::Full);
+    }
     if is_absent(s) {
         return Err(Refusal::NoSlot);
     }

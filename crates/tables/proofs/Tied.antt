@@ -1,4 +1,4 @@
--- What the gate and the rules by value answer, put together as the code does, is what the rules say of the table. Assumes nothing.
+-- What the gate and the rules on records answer, put together as the code does, is what the rules say of the table. Assumes nothing.
 use Rattle.laws.proofs.Library.{◌≡◌, refl, sym, ap, subst, ◌∙◌, Bool, true, false, cond, ◌||◌, [], ◌∷◌, ℕ, zero, suc, ◌+◌, ◌≤◌, ◌<◌, arith, eq-eqb, eqb-true, eqb-false}
 use Rattle.laws.proofs.Library.{leb-true, leb-false, le-ltb, lt-ltb, ltb-false, eqb, leb, ltb, length, length-set, set, replicate, Result, Ok, Err}
 use Rattle.std.specs.Prelude.{Option, Some, None, not, position}
@@ -203,14 +203,14 @@ sought t = rw (lowest_is t) (by (position_or_len (absent narrow) t) (prefix_len-
     by n h true e = simp (e, le-ltb n (length t) (omega (arith, eqb-true n (length t) e)))
     by n h false e = simp (e, lt-ltb n (length t) (omega (arith, eqb-false n (length t) e)))
 
--- no slot is absent
-abbrev full_answer : Result ℕ Refusal
-full_answer = Err Full
+-- the slot of the new copy: where there is none, no matter which
+abbrev pub slot_of : Option ℕ → ℕ
+slot_of None = 0
+slot_of (Some b) = b
 
 -- past the gate
 abbrev pub fork_past : Option ℕ → Table → ℕ → Step
-fork_past None t a = step_of (and_then (first (slot_tests (at t a) [])) (λ y. full_answer)) 0 t (λ x. t)
-fork_past (Some b) t a = step_of (fork_rule (at t a)) b t (λ f. set (set t a f.zero) b f.one)
+fork_past o t a = step_of (fork_rule (at t a) o) (slot_of o) t (λ f. set (set t a f.zero) (slot_of o) f.one)
 
 abbrev pub gated : Answer → Table → Step → Step
 gated (Ok x) t s = s
@@ -221,7 +221,7 @@ fork_form o t a = gated (gate (length t) a a) t (fork_past o t a)
 
 module _ (t : Table) (a : ℕ) where
   fork_full : full narrow t ≡ true → fork_at narrow t a ≡ fork_form None t a
-  unfolding fork_at first bad_size no_slot
+  unfolding fork_at fork_rule first bad_size no_slot
   fork_full f = by (gates (length t) a a) (absent narrow (at t a)) (unlawful narrow (at t a)) refl refl
     where
       by : Gate (length t) a a → (x y : Bool) → absent narrow (at t a) ≡ x → unlawful narrow (at t a) ≡ y → fork_at narrow t a ≡ fork_form None t a
@@ -242,7 +242,7 @@ module _ (t : Table) (a : ℕ) where
       by (out_b p q r c) = absurd (clash r q)
       by (past p q r c) =
           simp (c, p, q, f)
-          (sym (branch_step (first (slot_tests (at t a) ((long narrow (held (at t a)), Long) ∷ []))) (lowest narrow t) t (fork false (held (at t a)))
+          (sym (branch_step (first (slot_tests (at t a) ((false, Full) ∷ (long narrow (held (at t a)), Long) ∷ []))) (lowest narrow t) t (fork false (held (at t a)))
           (fork true (held (at t a))) (λ f. set (set t a f.zero) (lowest narrow t) f.one)))
 
   pub fork_tied : fork_at narrow t a ≡ fork_form (position (absent narrow) t) t a

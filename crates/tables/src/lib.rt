@@ -8,7 +8,7 @@ ghost use Rattle.rules.specs.Tables.{make_fresh, update_at, fork_at, join_at, st
 
 use rules::{Record, Refusal, Spared, Standing};
 use scans::{lowest_absent, spare_in};
-use slots::{asked, compare_rule, fork_rule, gate, join_rule, start, update_rule};
+use slots::{compare_rule, fork_rule, gate, join_rule, start, update_rule};
 use stamps::blank;
 
 // A fresh table: [e|e] in slot 0 and nothing else. Slot 0, or 12.
@@ -22,27 +22,36 @@ pub fn fresh(t: &mut [Record]) -> Result<usize, Refusal>
 }
 
 // Slot a's copy was edited.
+// stays: a `match`: `?` was tried, and moves the record once more.
 pub fn update(t: &mut [Record], a: usize) -> Result<usize, Refusal>
     ensures { (result ≡ (update_at narrow t.old a).answer) × (t.new ≡ (update_at narrow t.old a).table) }
 {
     gate(t.len(), a, a)?;
-    t[a] = update_rule(&t[a])?;
-    Ok(a)
+    match update_rule(&t[a]) {
+        Ok(edited) => {
+            t[a] = edited;
+            Ok(a)
+        }
+        Err(why) => Err(why),
+    }
 }
 
 // A copy of slot a in the lowest absent slot, which the answer names.
+// stays: a `match`: `?` was tried, and moves both branches once more.
 pub fn fork(t: &mut [Record], a: usize) -> Result<usize, Refusal>
     ensures { (result ≡ (fork_at narrow t.old a).answer) × (t.new ≡ (fork_at narrow t.old a).table) }
 {
     gate(t.len(), a, a)?;
-    let Some(b) = lowest_absent(t) else {
-        asked(&t[a])?;
-        return Err(Refusal::Full);
-    };
-    let branches = fork_rule(&t[a])?;
-    t[a] = branches.zero;
-    t[b] = branches.one;
-    Ok(b)
+    let to = lowest_absent(t);
+    match fork_rule(&t[a], to) {
+        Ok(branches) => {
+            let b = to.unwrap();
+            t[a] = branches.zero;
+            t[b] = branches.one;
+            Ok(b)
+        }
+        Err(why) => Err(why),
+    }
 }
 
 // The copies of a and b become one, in slot a.

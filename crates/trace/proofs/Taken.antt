@@ -1,7 +1,7 @@
 -- With a command for each byte a piece is taken unless the trace takes not so many bytes more; its answers are in the buffer, and what it left
 -- takes fewer bytes more. Assumes nothing.
-use Rattle.laws.proofs.Library.{◌≡◌, refl, List, ℕ, ◌≤◌, ◌<◌, max, arith, length}
-use Rattle.std.specs.Prelude.{MatchOption, MatchResult, ok_or}
+use Rattle.laws.proofs.Library.{◌≡◌, ◌⊎◌, inl, inr, List, ℕ, ◌≤◌, ◌<◌, max, arith, length}
+use Rattle.std.specs.Prelude.{MatchOption}
 use Rattle.std.specs.declared.option.Option.{Option}
 use Rattle.std.specs.declared.option.Option.TheVariants.{None, Some}
 use Rattle.rules.specs.Traces.{Text}
@@ -10,7 +10,6 @@ use Rattle.inputs.specs.declared.Trace.{Trace}
 use Rattle.inputs.specs.declared.Fed.{Fed}
 use Rattle.inputs.specs.Pieces.{fed, closed}
 use Rattle.inputs.proofs.Feeds.{fed_shown, fed_less, closed_shown}
-use Rattle.trace.specs.declared.Stop.TheVariants.{TooLong}
 
 -- what came of n bytes, where the end of the input counts as one
 abbrev pub IsTaken : Trace → ℕ → List Command → Option Fed → Type 0
@@ -25,8 +24,8 @@ pub closed_taken : (s : Trace) (commands : List Command) (r : Option Fed) → r 
 closed_taken s commands None e h = closed_shown s commands None e h
 closed_taken s commands (Some f) e h = (closed_shown s commands (Some f) e h, λ k. absurd (omega arith))
 
--- the same of what is given as a result
-pub taken : (s : Trace) (n : ℕ) (commands : List Command) (r : Option Fed) → IsTaken s n commands r
-    → MatchResult (ok_or r TooLong) (λ f. (f.count ≤ length commands) × (0 < n → f.trace.budget < s.budget)) (λ e. (e ≡ TooLong) × (s.budget < max 1 n))
-taken s n commands None h = (refl, h)
-taken s n commands (Some f) h = h
+-- a piece, or the end of the input where it is empty
+pub came : (s : Trace) (p : Text) (commands : List Command) (r : Option Fed) → length p ≤ length commands → 0 < length commands
+    → ((length p ≡ 0) × (r ≡ closed s commands)) ⊎ (r ≡ fed s p commands) → IsTaken s (length p) commands r
+came s p commands r h k (inl (none, e)) = rw none (closed_taken s commands r e k)
+came s p commands r h k (inr e) = fed_taken s p commands r e h

@@ -5,7 +5,7 @@
 ghost use Rattle.std.specs.Prelude.{◌≡◌, ◌≤◌, ◌<◌, length, max, MatchResult};
 ghost use Rattle.printing.specs.Answers.{longest};
 
-use inputs::{Fed, Trace};
+use inputs::Trace;
 use lines::{Command, UNREADABLE};
 use std::io::{Eprint, Input, Print, Read, Write};
 use std::{env, io};
@@ -53,7 +53,7 @@ fn tell<R: Eprint>(rt: &R, stop: Stop) {
 }
 
 // Piece after piece to the end of the input, then a last line without newline. A read or a write that fails ends it.
-// A proved loop has to end: this one does because each turn carries on the trace that its piece left, which takes fewer bytes more.
+// A proved loop has to end: this one does because the trace that a piece leaves takes fewer bytes more.
 fn answer<R: Input + Print>(
     rt: &R,
     piece: &mut [u8],
@@ -68,30 +68,33 @@ fn answer<R: Input + Print>(
     let mut trace = inputs::start();
     loop {
         let n = input.read(piece).map_err(Stop::Read)?;
-        let fed = take(&trace, &piece[..n], commands)?;
-        write(rt, &commands[..fed.count], out).map_err(Stop::Write)?;
+        let count = take(&mut trace, &piece[..n], commands)?;
+        write(rt, &commands[..count], out).map_err(Stop::Write)?;
         if n == 0 {
             return Ok(());
         }
-        trace = fed.trace;
     }
 }
 
-// What a piece leaves; an empty one is the end of the input. Only a piece of more bytes than the trace still takes is not taken, where the
-// end counts as one.
-fn take(trace: &Trace, piece: &[u8], commands: &mut [Command]) -> Result<Fed, Stop>
+// A piece taken by the trace, in place: how many answers it has; an empty one is the end of the input. Only a piece of more bytes than the
+// trace still takes is not taken, where the end counts as one.
+fn take(trace: &mut Trace, piece: &[u8], commands: &mut [Command]) -> Result<usize, Stop>
     requires piece_in_bounds { length piece.now ≤ length commands.old }
     requires commands_nonzero { 0 < length commands.old }
     ensures { MatchResult result
-        (λ fed. (fed.count ≤ length commands.new) × (0 < length piece.now → fed.trace.budget < trace.now.budget))
-        (λ stop. (stop ≡ Stop.TooLong) × (trace.now.budget < max 1 (length piece.now))) }
+        (λ count. (count ≤ length commands.new) × (0 < length piece.now → trace.new.budget < trace.old.budget))
+        (λ stop. (stop ≡ Stop.TooLong) × (trace.old.budget < max 1 (length piece.now))) }
 {
     let fed = if piece.is_empty() {
         inputs::close(*trace, commands)
     } else {
         inputs::feed(*trace, piece, commands)
     };
-    fed.ok_or(Stop::TooLong)
+    let Some(fed) = fed else {
+        return Err(Stop::TooLong);
+    };
+    *trace = fed.trace;
+    Ok(fed.count)
 }
 
 // The text of all answers on standard output, as much of it at a time as `out` takes.

@@ -1,6 +1,6 @@
 -- What the loop of `unite` comes to from a turn on: a turn leaves it as it was, and at the end what is left of one of the two follows. Assumes nothing.
 use Rattle.laws.proofs.Library.{◌≡◌, sym, ap, ap₂, ◌∙◌, Bool, true, false, cond, List, [], ◌∷◌, ◌++◌, ◌⊎◌, inl, inr, ℕ, suc, ◌+◌, ◌-◌, ◌≤◌, ◌<◌, zero-add, add-one}
-use Rattle.laws.proofs.Library.{arith, append_assoc, eqb, eqb·suc-zero, drop-drop, lt-ltb, le-ltb, length, take, drop, get_or, set, sets, sets-eq, take-length}
+use Rattle.laws.proofs.Library.{arith, append_assoc, eqb, eqb·suc-zero, drop-drop, lt-ltb, le-ltb, length, take, drop, get_or, set, sets, sets-eq, take-length, length-drop}
 use borrow.Rule.Slice.PartMut.{put_mid}
 use Rattle.rules.specs.Packed.{over}
 use Rattle.laws.proofs.Tests.{clash}
@@ -20,10 +20,24 @@ behind_first l = take (length l - 1) (drop 1 l)
 pub behind_is : (x : ℕ) (l : List ℕ) → behind_first (x ∷ l) ≡ l
 behind_is x l = let e : suc (length l) - 1 ≡ length l = omega arith in rw e (take-length l)
 
+-- behind a word of what is left of o, what is left then
+left_behind : (x : ℕ) (l o : List ℕ) → x ∷ l ≡ drop (length o - suc (length l)) o → l ≡ drop (length o - length l) o
+left_behind x l o h =
+    let i = length o - suc (length l) in
+    ap (drop 1) h ∙ drop-drop 1 i o ∙ ap (λ (j : ℕ). drop j o) (omega (arith, ap length h, length-drop i o))
+
+-- and taken from o by how many it has, it is as it was
+pub left_is : (o l : List ℕ) → l ≡ drop (length o - length l) o → take (length o - (length o - length l)) (drop (length o - length l) o) ≡ l
+left_is o l h =
+    let i = length o - length l in
+    ap (λ (k : ℕ). take k (drop i o)) (sym (length-drop i o)) ∙ take-length (drop i o) ∙ sym h
+
 -- low, the lower of the first words of m and n, is taken from its name, high is the other, and m' and n' are to come
 pub record Turn (m n m' n' : List ℕ) (low high : ℕ) : Type 0 where
   pub next : merge m n ≡ cond (begins low high) (merge m' n') (low ∷ merge m' n')
   pub fewer : length m' + length n' + 1 ≡ length m + length n
+  pub ours_left : (o : List ℕ) → m ≡ drop (length o - length m) o → m' ≡ drop (length o - length m') o
+  pub theirs_left : (o : List ℕ) → n ≡ drop (length o - length n) o → n' ≡ drop (length o - length n') o
 
 pub turn : (m n m' n' : List ℕ) (p : ℕ × ℕ) → 1 ≤ length m → 1 ≤ length n
     → ((get_or m 0 0 < get_or n 0 0) × (m' ≡ behind_first m) × (n' ≡ n) × (p ≡ (get_or m 0 0, get_or n 0 0)))
@@ -32,8 +46,8 @@ pub turn : (m n m' n' : List ℕ) (p : ℕ × ℕ) → 1 ≤ length m → 1 ≤ 
 unfolding merge merge_from
 turn [] n m' n' p a b h = absurd (omega arith)
 turn (s ∷ m) [] m' n' p a b h = absurd (omega arith)
-turn (s ∷ m) (t ∷ n) m' n' p a b (inl (l, e, f, g)) = rw (g, f, e, behind_is) (record { next = simp (lt-ltb s t l); fewer = omega arith })
-turn (s ∷ m) (t ∷ n) m' n' p a b (inr (l, e, f, g)) = rw (g, f, e, behind_is) (record { next = simp (le-ltb s t l); fewer = omega arith })
+turn (s ∷ m) (t ∷ n) m' n' p a b (inl (l, e, f, g)) = rw (g, f, e, behind_is) (record { next = simp (lt-ltb s t l); fewer = omega arith; ours_left = left_behind s m; theirs_left = λ o h. h })
+turn (s ∷ m) (t ∷ n) m' n' p a b (inr (l, e, f, g)) = rw (g, f, e, behind_is) (record { next = simp (le-ltb s t l); fewer = omega arith; ours_left = λ o h. h; theirs_left = left_behind t n })
 
 module _ (k : ℕ) (out : List ℕ) where
   module _ {m n m' n' : List ℕ} {low high : ℕ} (u : Turn m n m' n' low high) where

@@ -42,6 +42,7 @@ fn unite(m: &[u64], n: &[u64], out: &mut [u64]) -> usize
 {
     let mut ours = m;
     let mut theirs = n;
+    // stays: a count beside the buffer that it fills, as in `lines::gather`
     let mut count = 0;
     while let ([s, more @ ..], [t, others @ ..]) = (ours, theirs) {
         let (low, high) = if s < t {
@@ -56,7 +57,12 @@ fn unite(m: &[u64], n: &[u64], out: &mut [u64]) -> usize
             count += 1;
         }
     }
-    let rest = if ours.is_empty() { theirs } else { ours };
+    // Counted from the name's end: the compiler then sees that it lies apart from the buffer, and an archive needs no memmove.
+    let rest = if ours.is_empty() {
+        &n[n.len() - theirs.len()..]
+    } else {
+        &m[m.len() - ours.len()..]
+    };
     let end = count + rest.len();
     out[count..end].copy_from_slice(rest);
     end

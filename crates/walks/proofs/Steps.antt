@@ -1,6 +1,6 @@
 -- One word more, as a loop wants it: what each walk says of lists by the words that they begin with. Assumes nothing.
 use Rattle.laws.proofs.Library.{◌≡◌, refl, sym, ap, ap₂, ◌∙◌, Bool, false, true, cond, not, ◌&&◌, ◌||◌, and-true, List, [], ◌∷◌, ℕ, zero, suc, ◌+◌, ◌-◌, ◌%◌}
-use Rattle.laws.proofs.Library.{◌≤◌, ◌<◌, arith, add-one, lt-ltb, le-ltb, ltb-true, le-leb, lt-leb, leb-true, leb-false, leb·suc-suc, leb·suc-zero, eqb, leb, ltb}
+use Rattle.laws.proofs.Library.{◌≤◌, ◌<◌, arith, add-one, lt-ltb, le-ltb, ltb-true, le-leb, lt-leb, leb-true, leb-false, eq-eqb, eqb-true, ne_eqb, eqb·suc-suc, eqb, leb, ltb}
 use Rattle.laws.proofs.Library.{length, get_or, take, take_all, drop, length-drop, drop_of_length-le, drop-cons}
 use Rattle.std.specs.Prelude.{None, Some}
 use Rattle.std.specs.List.{list_any}
@@ -9,6 +9,7 @@ use Rattle.rules.specs.Names.{any}
 use Rattle.strings.specs.Words.{begins}
 use Rattle.walks.specs.Walks.{at_least, heads, below_walk, uncovered_walk, string_at, uncovered_in, overlap_from, overlap_walk, unknown_walk, unknown_in, has_twins, is_long}
 use Rattle.rules.specs.declared.Uncovered.{Uncovered}
+use Rattle.laws.proofs.Tests.{iff}
 use Rattle.laws.proofs.Words.{str_length}
 
 -- the words behind the first, as a pattern lends them
@@ -102,16 +103,33 @@ module _ (m : List ℕ) (i : ℕ) (h : i < length m) (n : List ℕ) where
       none [] k = refl
       none (t ∷ n) k = absurd (omega arith)
 
+-- a place lies in m or at its end
+pub uncovered_le : (m n : List ℕ) → uncovered_walk m n ≤ length m
+unfolding uncovered_walk
+uncovered_le [] n = omega arith
+uncovered_le (s ∷ m) n = by (heads s (at_least s n)) (uncovered_le m (at_least s n))
+  where
+    by : (b : Bool) → uncovered_walk m (at_least s n) ≤ length m → cond b (suc (uncovered_walk m (at_least s n))) zero ≤ suc (length m)
+    by true h = omega arith
+    by false h = omega arith
+
+-- and at its end where m is below n
+pub below_uncovered : (m n : List ℕ) → below_walk m n ≡ eqb (uncovered_walk m n) (length m)
+unfolding below_walk uncovered_walk
+below_uncovered [] n = refl
+below_uncovered (s ∷ m) n = by (heads s (at_least s n)) (below_uncovered m (at_least s n))
+  where
+    by : (b : Bool) → below_walk m (at_least s n) ≡ eqb (uncovered_walk m (at_least s n)) (length m)
+        → (b && below_walk m (at_least s n)) ≡ eqb (cond b (suc (uncovered_walk m (at_least s n))) zero) (suc (length m))
+    by true h = h ∙ sym (eqb·suc-suc (uncovered_walk m (at_least s n)) (length m))
+    by false h = sym (ne_eqb 0 (suc (length m)) (λ e. omega arith))
+
 -- m is below n where the place is as many as m has
 pub below_least : (m n : List ℕ) → below_walk m n ≡ leb (length m) (uncovered_walk m n)
-unfolding below_walk uncovered_walk
-below_least [] n = refl
-below_least (s ∷ m) n = by (heads s (at_least s n)) (below_least m (at_least s n))
-  where
-    by : (b : Bool) → below_walk m (at_least s n) ≡ leb (length m) (uncovered_walk m (at_least s n))
-        → (b && below_walk m (at_least s n)) ≡ leb (suc (length m)) (cond b (suc (uncovered_walk m (at_least s n))) zero)
-    by true h = h ∙ sym (leb·suc-suc (length m) (uncovered_walk m (at_least s n)))
-    by false h = sym (leb·suc-zero (length m))
+below_least m n =
+    below_uncovered m n
+    ∙ iff (λ e. le-leb (length m) (uncovered_walk m n) (omega (arith, eqb-true (uncovered_walk m n) (length m) e)))
+    (λ e. eq-eqb (uncovered_walk m n) (length m) (omega (arith, leb-true (length m) (uncovered_walk m n) e, uncovered_le m n)))
 
 -- what a walk has found that stopped at i, and one that did not stop
 pub found_at : (m n : List ℕ) (i : ℕ) → i < length m → uncovered_walk m n ≡ i → Some (string_at m i) ≡ uncovered_in m n

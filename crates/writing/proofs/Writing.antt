@@ -1,6 +1,6 @@
 -- What the proofs of the writers cite: words that fit, what a size tells, bits behind bits in a word, and bytes behind bytes. Assumes nothing.
-use Rattle.laws.proofs.Library.{◌≡◌, refl, sym, ap, ap₂, ◌∙◌, Bool, true, false, cond, ◌&&◌, List, [], ◌∷◌, ◌++◌, map, append_assoc, ℕ}
-use Rattle.laws.proofs.Library.{◌+◌, ◌*◌, ◌-◌, ◌%◌, ◌^◌, ◌≤◌, ◌<◌, add-zero, arith, le-leb, leb-true, leb, pow_pos, shl-shr, mod-pow-add}
+use Rattle.laws.proofs.Library.{◌≡◌, refl, sym, ap, ap₂, ◌∙◌, subst, Bool, true, false, cond, ◌&&◌, List, [], ◌∷◌, ◌++◌, map, append_assoc, ℕ}
+use Rattle.laws.proofs.Library.{◌+◌, ◌*◌, ◌-◌, ◌%◌, ◌^◌, ◌≤◌, ◌<◌, add-zero, mod-lt, arith, le-leb, leb-true, leb, pow_pos, shl-shr, mod-pow-add}
 use Rattle.laws.proofs.Library.{zero, suc, ◌/◌, ltb, lt-ltb, pow-suc, pow-add, suc-mul, mod-mod-pow, low, length, get_or, take, drop, length-map, length-append, drop-drop}
 use Rattle.std.specs.Prelude.{Option}
 use Rattle.std.specs.Option.{ok_or}
@@ -25,7 +25,7 @@ use Rattle.writing.specs.Cursors.{written, Put}
 use Rattle.writing.specs.declared.Pen.{Pen}
 use Rattle.writing.specs.Fits.{all_fit, fits_name, fits, written_names}
 use Rattle.layout.proofs.Sizes.{name_length, strings_most}
-use Rattle.layout.proofs.Values.{field_join}
+use Rattle.layout.proofs.Values.{join_lt, field_join}
 
 -- ---- words that fit
 
@@ -129,6 +129,11 @@ shifted a j k =
     mod-pow-add (a * 2 ^ k) j k
     ∙ ap₂ (λ (x y : ℕ). (x % 2 ^ j) * 2 ^ k + y) (shl-shr a k) (ap (λ (x : ℕ). x % 2 ^ k) (sym (add-zero (a * 2 ^ k))) ∙ low a k {lo = 0} (pow_pos k))
     ∙ add-zero _
+
+-- so that a number of k bits behind them fits
+pub push_lt : (a j k v : ℕ) → j + k ≡ 64 → v < 2 ^ k → (a * 2 ^ k) % 2 ^ 64 + v < 2 ^ 64
+push_lt a j k v e l =
+    subst (λ (n : ℕ). (a * 2 ^ k) % 2 ^ n + v < 2 ^ n) e (rw (shifted a j k) (join_lt (a % 2 ^ j) j k v (mod-lt a (pow_pos j)) l))
 
 -- and the bits of v stand behind those of a that are held
 pub push_bits : (a h j k v : ℕ) → h ≤ j → j + k ≡ 64 → v < 2 ^ k → field (h + k) ((a * 2 ^ k) % 2 ^ 64 + v) ≡ field h a ++ field k v

@@ -1,30 +1,19 @@
--- `calls::room` meets its contract: what the reader refuses is passed out; else the id has as many strings as words, and `longest` tells the
--- digits. Assumes nothing.
-use Rattle.laws.proofs.Library.{◌≡◌, ◌∙◌, List, ℕ, length, map, length-map, Ok, Err}
-use Rattle.rules.specs.Limits.{narrow}
-use Rattle.rules.specs.Strings.{str_of}
-use Rattle.rules.specs.Stored.{held, strs_in}
-use Rattle.rules.specs.Packed.{read_stamp}
-use Rattle.rules.specs.Room.{room_of, room_in, longest_of}
-use Rattle.rules.specs.declared.Refusal.{Refusal}
-use Rattle.rules.specs.declared.StampWords.{StampWords}
-use Rattle.calls.specs.Joins.{LentBy}
-use Rattle.std.proofs.Common.{rules}
+-- `calls::room` meets its contract: it is `room_in`, whose two numbers are few enough for one. Assumes nothing.
+use Rattle.laws.proofs.Library.{sym, ap, arith}
+use Rattle.rules.specs.Room.{hundreds, room_number}
+use Rattle.calls.proofs.Few.{room_few}
 use Rattle.calls.proofs.room.Goals as goal
 
-no_room : (s : List ℕ) {r : Refusal} → read_stamp narrow s ≡ Err r → Err r ≡ room_in narrow s
-unfolding room_in
-no_room s n = rw n
+pub overflow_mul-result : goal.overflow_mul-result
+overflow_mul-result c = omega (arith, (room_few c.args.stamp.now _ (sym c.in-Ok.ensures)).0)
 
-is_room : {s : List ℕ} {w : StampWords} {n : ℕ} → LentBy s w → n ≡ longest_of (map str_of w.id.now)
-    → Ok (record { strings = length w.id.now; digits = n }) ≡ room_in narrow s
-unfolding room_in room_of held strs_in
-is_room {w = w} x e = rw (x.is, x.lent.id, e, length-map w.id.now str_of)
+pub overflow_add-result : goal.overflow_add-result
+overflow_add-result c = let few = room_few c.args.stamp.now _ (sym c.in-Ok.ensures) in record { fits = omega (arith, few.0, few.1) }
 
-pub returns-in_err-s : goal.returns-in_err-s
-returns-in_err-s c =
-    let e : c.from_residual.result ≡ Err c.in_err-s.field-0.0 = search rules in
-    e ∙ no_room c.args.stamp.now c.in_err-s.ensures
+pub returns-in-Ok : goal.returns-in-Ok
+unfolding room_number
+returns-in-Ok c = ap hundreds c.in-Ok.ensures
 
-pub returns : goal.returns
-returns c = is_room c.in_ok-s.ensures c.longest.ensures
+pub returns-in-Err : goal.returns-in-Err
+unfolding room_number
+returns-in-Err c = ap hundreds c.in-Err.ensures
