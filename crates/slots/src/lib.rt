@@ -72,7 +72,9 @@ pub fn update_rule(s: &Record) -> Result<Record, Refusal>
     })
 }
 
-// What fork makes of a slot's record, of which one branch goes to the lowest absent slot, if there is one.
+// What fork makes of a slot's record, of which one branch goes to the lowest absent slot, if there is one. Never in line: the compiler would
+// see the record stored where it lies, and an archive would need memmove.
+#[inline(never)]
 pub fn fork_rule(s: &Record, to: Option<usize>) -> Result<Branches, Refusal>
     ensures { result ≡ fork_rule s.now to }
 {
