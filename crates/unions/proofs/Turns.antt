@@ -36,6 +36,10 @@ left_is o l h =
 pub record Turn (m n m' n' : List ℕ) (low high : ℕ) : Type 0 where
   pub next : merge m n ≡ cond (begins low high) (merge m' n') (low ∷ merge m' n')
   pub fewer : length m' + length n' + 1 ≡ length m + length n
+
+-- the same, and where m and n are the ends of two names, so are m' and n'
+pub record EndsTurn (m n m' n' : List ℕ) (low high : ℕ) : Type 0 where
+  pub turn : Turn m n m' n' low high
   pub ours_left : (o : List ℕ) → m ≡ drop (length o - length m) o → m' ≡ drop (length o - length m') o
   pub theirs_left : (o : List ℕ) → n ≡ drop (length o - length n) o → n' ≡ drop (length o - length n') o
 
@@ -46,8 +50,21 @@ pub turn : (m n m' n' : List ℕ) (p : ℕ × ℕ) → 1 ≤ length m → 1 ≤ 
 unfolding merge merge_from
 turn [] n m' n' p a b h = absurd (omega arith)
 turn (s ∷ m) [] m' n' p a b h = absurd (omega arith)
-turn (s ∷ m) (t ∷ n) m' n' p a b (inl (l, e, f, g)) = rw (g, f, e, behind_is) (record { next = simp (lt-ltb s t l); fewer = omega arith; ours_left = left_behind s m; theirs_left = λ o h. h })
-turn (s ∷ m) (t ∷ n) m' n' p a b (inr (l, e, f, g)) = rw (g, f, e, behind_is) (record { next = simp (le-ltb s t l); fewer = omega arith; ours_left = λ o h. h; theirs_left = left_behind t n })
+turn (s ∷ m) (t ∷ n) m' n' p a b (inl (l, e, f, g)) = rw (g, f, e, behind_is) (record { next = simp (lt-ltb s t l); fewer = omega arith })
+turn (s ∷ m) (t ∷ n) m' n' p a b (inr (l, e, f, g)) = rw (g, f, e, behind_is) (record { next = simp (le-ltb s t l); fewer = omega arith })
+
+pub ends_turn : (m n m' n' : List ℕ) (p : ℕ × ℕ) → 1 ≤ length m → 1 ≤ length n
+    → ((get_or m 0 0 < get_or n 0 0) × (m' ≡ behind_first m) × (n' ≡ n) × (p ≡ (get_or m 0 0, get_or n 0 0)))
+    ⊎ ((get_or n 0 0 ≤ get_or m 0 0) × (m' ≡ m) × (n' ≡ behind_first n) × (p ≡ (get_or n 0 0, get_or m 0 0)))
+    → EndsTurn m n m' n' p.0 p.1
+ends_turn [] n m' n' p a b h = absurd (omega arith)
+ends_turn (s ∷ m) [] m' n' p a b h = absurd (omega arith)
+ends_turn (s ∷ m) (t ∷ n) m' n' p a b (inl (l, e, f, g)) =
+    let u : Turn (s ∷ m) (t ∷ n) m' n' p.0 p.1 = turn (s ∷ m) (t ∷ n) m' n' p a b (inl (l, e, f, g)) in
+    record { turn = u; ours_left = rw (e, behind_is) (left_behind s m); theirs_left = rw f (λ o h. h) }
+ends_turn (s ∷ m) (t ∷ n) m' n' p a b (inr (l, e, f, g)) =
+    let u : Turn (s ∷ m) (t ∷ n) m' n' p.0 p.1 = turn (s ∷ m) (t ∷ n) m' n' p a b (inr (l, e, f, g)) in
+    record { turn = u; ours_left = rw e (λ o h. h); theirs_left = rw (f, behind_is) (left_behind t n) }
 
 module _ (k : ℕ) (out : List ℕ) where
   module _ {m n m' n' : List ℕ} {low high : ℕ} (u : Turn m n m' n' low high) where

@@ -2,30 +2,30 @@
 -- The measure is how many are to come. Assumes nothing.
 use Rattle.laws.proofs.Library.{◌≡◌, sym, ap, ◌∙◌, true, false, ◌⊎◌, inl, inr, ◌<◌, arith, length, length-set}
 use Rattle.std.proofs.Common.{rules}
-use Rattle.unions.proofs.Turns.{Turn, turn, kept, lost, left_is, merges_rest, merges_all}
+use Rattle.unions.proofs.Turns.{EndsTurn, ends_turn, kept, lost, left_is, merges_rest, merges_all}
 use Rattle.unions.proofs.unite.Goals as goal
 use Rattle.unions.proofs.unite.Goals.{then-s-t, else-s-t, in_default, in_default-2, then-is_empty, else-is_empty}
 
 pub loop-ours-preserved-then-not-begins : goal.loop-ours-preserved-then-not-begins
 loop-ours-preserved-then-not-begins c =
-    let u : Turn c.loop-ours.ours.now c.loop-ours.theirs.now c.if-s-t.ours.now c.if-s-t.theirs.now c.if-s-t.low.0 c.if-s-t.low.1 =
-    turn _ _ _ _ _ (search rules) (search rules)
+    let u : EndsTurn c.loop-ours.ours.now c.loop-ours.theirs.now c.if-s-t.ours.now c.if-s-t.theirs.now c.if-s-t.low.0 c.if-s-t.low.1 =
+    ends_turn _ _ _ _ _ (search rules) (search rules)
     (elim c.if-s-t.branch [ then-s-t w ↦ inl (w.if-s-t.true, ap (λ b. b.now) w.ours-is, ap (λ b. b.now) w.theirs-is, w.low-is) | else-s-t w ↦ inr (w.if-s-t.false, ap (λ b. b.now) w.ours-is, ap (λ b. b.now) w.theirs-is, w.low-is) ]) in record {
-      room = simp length-set (omega (arith, u.fewer, c.loop-ours.invariant.room));
+      room = simp length-set (omega (arith, u.turn.fewer, c.loop-ours.invariant.room));
       ours_left = u.ours_left c.args.m.now c.loop-ours.invariant.ours_left;
       theirs_left = u.theirs_left c.args.n.now c.loop-ours.invariant.theirs_left;
-      same = kept c.loop-ours.count c.loop-ours.out u (sym c.begins.ensures ∙ c.if-not-begins.true) ∙ c.loop-ours.invariant.same;
+      same = kept c.loop-ours.count c.loop-ours.out u.turn (sym c.begins.ensures ∙ c.if-not-begins.true) ∙ c.loop-ours.invariant.same;
     }
 
 pub loop-ours-preserved : goal.loop-ours-preserved
 loop-ours-preserved c =
-    let u : Turn c.loop-ours.ours.now c.loop-ours.theirs.now c.if-s-t.ours.now c.if-s-t.theirs.now c.if-s-t.low.0 c.if-s-t.low.1 =
-    turn _ _ _ _ _ (search rules) (search rules)
+    let u : EndsTurn c.loop-ours.ours.now c.loop-ours.theirs.now c.if-s-t.ours.now c.if-s-t.theirs.now c.if-s-t.low.0 c.if-s-t.low.1 =
+    ends_turn _ _ _ _ _ (search rules) (search rules)
     (elim c.if-s-t.branch [ then-s-t w ↦ inl (w.if-s-t.true, ap (λ b. b.now) w.ours-is, ap (λ b. b.now) w.theirs-is, w.low-is) | else-s-t w ↦ inr (w.if-s-t.false, ap (λ b. b.now) w.ours-is, ap (λ b. b.now) w.theirs-is, w.low-is) ]) in record {
-      room = omega (arith, u.fewer, c.loop-ours.invariant.room);
+      room = omega (arith, u.turn.fewer, c.loop-ours.invariant.room);
       ours_left = u.ours_left c.args.m.now c.loop-ours.invariant.ours_left;
       theirs_left = u.theirs_left c.args.n.now c.loop-ours.invariant.theirs_left;
-      same = lost c.loop-ours.count c.loop-ours.out u (sym c.begins.ensures ∙ c.if-not-begins.false) ∙ c.loop-ours.invariant.same;
+      same = lost c.loop-ours.count c.loop-ours.out u.turn (sym c.begins.ensures ∙ c.if-not-begins.false) ∙ c.loop-ours.invariant.same;
     }
 
 pub returns : goal.returns
